@@ -1,0 +1,7 @@
+pub mod Sums
+pub mod Beginnings
+pub mod Entries
+pub mod Moves
+pub mod Splits
+pub mod Joins
+pub mod Endings

@@ -1,0 +1,5 @@
+pub mod History
+pub mod Roster
+pub mod Steps
+pub mod Ends
+pub mod Laws

@@ -1,0 +1,4 @@
+pub mod Division
+pub mod Carrying
+pub mod Coordinates
+pub mod Rows
