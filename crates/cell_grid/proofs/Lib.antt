@@ -1,0 +1,4 @@
+pub mod FrameLemmas
+pub mod GridLemmas
+pub mod OneToOne
+pub mod PyramidLemmas

@@ -1,0 +1,4 @@
+pub mod Grid
+pub mod GridErr
+pub mod Kind
+pub mod Pyramid

@@ -1,0 +1,7 @@
+pub mod Calls
+pub mod Faults
+pub mod Held
+pub mod MemStore
+pub mod Pieces
+pub mod Store
+pub mod Stream
