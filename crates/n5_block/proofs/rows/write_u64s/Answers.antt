@@ -1,0 +1,13 @@
+-- The next number is written behind those before it.
+use Rattle.std.proofs.Common.{◌*◌, refl, arith}
+use Rattle.n5_block.proofs.RowLemmas.{put_number, written_more, all_written}
+use Rattle.n5_block.proofs.rows.write_u64s.Goals as goal
+
+pub loop-i-preserved : goal.loop-i-preserved
+loop-i-preserved c =
+    let i = c.loop-i.i in
+    let step = put_number 8 (8 * i) _ _ c.loop-i.out c.write_u64.new.buf _ (omega arith) c.write_u64.ensures in
+    written_more 8 i _ c.loop-i.out _ c.args.values.now (omega arith) c.loop-i.invariant step refl
+
+pub returns : goal.returns
+returns c = all_written 8 c.loop-i.i c.loop-i.out c.args.values.now (omega arith) (omega arith) c.loop-i.invariant

@@ -1,0 +1,5 @@
+pub mod Block
+pub mod Rules
+pub mod Rows
+pub mod Values
+pub mod Laws
