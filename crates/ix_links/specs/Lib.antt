@@ -1,0 +1,4 @@
+pub mod NodeList
+pub mod NodeLists
+pub mod Ring
+pub mod Links

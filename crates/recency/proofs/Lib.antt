@@ -1,0 +1,4 @@
+pub mod Orders
+pub mod Walks
+pub mod Counts
+pub mod Victims
