@@ -1,0 +1,9 @@
+pub mod State
+pub mod Shape
+pub mod Next
+pub mod Legal
+pub mod History
+pub mod Laws
+pub mod Tally
+pub mod Tracked
+pub mod Checked

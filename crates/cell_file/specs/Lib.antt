@@ -1,0 +1,4 @@
+pub mod File
+pub mod Keys
+pub mod Laws
+pub mod Standing

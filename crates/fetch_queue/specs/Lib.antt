@@ -1,0 +1,5 @@
+pub mod Queue
+pub mod Ranking
+pub mod Requests
+pub mod Ranks
+pub mod Queues

@@ -1,0 +1,5 @@
+mod GetLemmas
+pub mod LoopLemmas
+pub mod Prefixes
+mod PyramidLemmas
+mod ValueLemmas

@@ -1,0 +1,6 @@
+pub mod NoteLemmas
+pub mod WantedLemmas
+pub mod PaintedLemmas
+pub mod CompleteLemmas
+pub mod MomentLemmas
+pub mod ShadeLemmas

@@ -1,0 +1,10 @@
+pub mod Laws
+pub mod Looks
+pub mod Moment
+pub mod Notes
+pub mod Painted
+pub mod Painting
+pub mod Picture
+pub mod Pixel
+pub mod Shade
+pub mod Wanted

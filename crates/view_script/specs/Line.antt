@@ -1,0 +1,49 @@
+-- What each line says behind its first word.
+use Rattle.std.specs.Prelude.{◌-◌, ◌^◌, [], ◌∷◌}
+use Rattle.view_script.specs.declared.command.Command.TheVariants.{Get, Set}
+use Rattle.view_script.specs.declared.line.Keyword.{Keyword}
+use Rattle.view_script.specs.declared.line.Keyword.TheVariants as keyword
+use Rattle.view_script.specs.declared.line.Line.{Line}
+use Rattle.view_script.specs.declared.line.Line.TheVariants as line
+use Rattle.view_script.specs.Reading.{Reading, ◌>>=◌, word_as, ended, root_in, kind_in, number, number_above, three, any}
+
+unfoldable pub raw : Reading Line
+raw = do
+  root ← word_as root_in
+  kind ← word_as kind_in
+  dims ← three any
+  cell ← three (2 ^ 32 - 1)
+  ended (line.Raw root kind dims cell)
+
+unfoldable pub open_root : Reading Line
+open_root = do
+  root ← word_as root_in
+  ended (line.Open root)
+
+unfoldable pub range : Reading Line
+range = do
+  low ← number any
+  high ← number_above low
+  ended (line.Range (low ∷ high ∷ []))
+
+unfoldable pub get : Reading Line
+get = do
+  level ← number 7
+  pos ← three any
+  ended (line.Command (Get level pos))
+
+unfoldable pub set : Reading Line
+set = do
+  level ← number 7
+  pos ← three any
+  value ← number any
+  ended (line.Command (Set level pos value))
+
+abbrev pub behind : Keyword → Reading Line
+behind keyword.Raw = raw
+behind keyword.Open = open_root
+behind keyword.Range = range
+behind keyword.Phase = ended line.Phase
+behind keyword.Actor = ended line.Actor
+behind keyword.Get = get
+behind keyword.Set = set

@@ -1,0 +1,34 @@
+// What a line says.
+use crate::command::Command;
+use crate::root::Root;
+use cell_grid::Kind;
+
+/// The first word of a line.
+#[derive(Clone, Copy, Debug, PartialEq, Eq)]
+pub enum Keyword {
+    Raw,
+    Open,
+    Range,
+    Phase,
+    Actor,
+    Get,
+    Set,
+}
+
+/// What a line says. Its root is borrowed from the line.
+#[derive(Drop)]
+pub enum Line<'a> {
+    Raw {
+        root: Root<'a>,
+        kind: Kind,
+        dims: [u64; 3],
+        cell: [u32; 3],
+    },
+    Open {
+        root: Root<'a>,
+    },
+    Range([u64; 2]),
+    Phase,
+    Actor,
+    Command(Command),
+}

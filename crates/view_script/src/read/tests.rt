@@ -1,0 +1,190 @@
+use super::*;
+use crate::command::Command;
+use crate::script::Head;
+use cell_grid::Kind;
+use std::test::Fail;
+
+/// The first broken rule of a text and the line that breaks it, where it is no script.
+fn refused(alloc: Global, text: &[u8]) -> Option<(u32, ScriptKind)> {
+    match read_script(alloc, text) {
+        Err(ScriptErr::At { line, kind }) => Some((line, kind)),
+        _ => None,
+    }
+}
+
+/// A text of so many lines after two first ones.
+fn repeated(alloc: Global, first: &str, line: &str, lines: usize) -> Result<String, AllocError> {
+    let mut text = String::from_str(alloc, first)?;
+    for _ in 0..lines {
+        text.push_str(line)?;
+    }
+    Ok(text)
+}
+
+#[test]
+fn prefixes_of_a_head(rt: HostRuntime) {
+    let alloc = rt.alloc();
+    assert_eq!(rt; refused(alloc, b""), Some((1, ScriptKind::Order)));
+    assert_eq!(rt; refused(alloc, b"ra"), Some((1, ScriptKind::UnknownWord)));
+    assert_eq!(rt; refused(alloc, b"raw"), Some((1, ScriptKind::MissingWord)));
+    assert_eq!(rt;
+        refused(alloc, b"raw v"),
+        Some((1, ScriptKind::MissingWord))
+    );
+    assert_eq!(rt;
+        refused(alloc, b"raw vol uin"),
+        Some((1, ScriptKind::UnknownWord))
+    );
+    assert_eq!(rt;
+        refused(alloc, b"raw vol uint8"),
+        Some((1, ScriptKind::MissingWord))
+    );
+    assert_eq!(rt;
+        refused(alloc, b"raw vol uint8 6 2 2 2 2 "),
+        Some((1, ScriptKind::MissingWord))
+    );
+    assert_eq!(rt; refused(alloc, b"raw vol uint8 6 2 2 2 2 2"), None);
+}
+
+#[test]
+fn rules_of_one_line(rt: HostRuntime) {
+    let alloc = rt.alloc();
+    let head = b"raw vol uint8 6 2 2 2 2 2\nphase\nactor\n";
+    for (line, kind) in [
+        ("get 0 1 2", ScriptKind::MissingWord),
+        ("pause", ScriptKind::UnknownWord),
+        (
+            "view a 4 4 0 blocking 1 1 0 0 0 1 0 0 0 0",
+            ScriptKind::UnknownWord,
+        ),
+        ("fetch 1", ScriptKind::UnknownWord),
+        ("get 8 1 2 3", ScriptKind::Limit),
+        ("set 0 1 2 3", ScriptKind::MissingWord),
+        ("set 0 1 2 3 4 5", ScriptKind::ExtraWord),
+        ("get 0 18446744073709551616 0 0", ScriptKind::BadNumber),
+        ("get +0 1 2 3", ScriptKind::BadNumber),
+        ("range 0 1", ScriptKind::Order),
+        ("open vol", ScriptKind::Order),
+    ] {
+        assert_eq!(rt; refused_after(alloc, head, line), Some((4, kind)), "{line}");
+    }
+}
+
+/// What a text with one more line is refused for.
+fn refused_after(alloc: Global, head: &[u8], line: &str) -> Option<(u32, ScriptKind)> {
+    let mut text = Vec::from_slice(alloc, head).ok()?;
+    text.extend_from_slice(line.as_bytes()).ok()?;
+    refused(alloc, text.as_slice())
+}
+
+#[test]
+fn lines_and_their_ends(rt: HostRuntime) {
+    let alloc = rt.alloc();
+    assert_eq!(rt;
+        refused(alloc, b"# one\n\n \t\nrange 0 1\n"),
+        Some((4, ScriptKind::Order))
+    );
+    assert_eq!(rt;
+        refused(alloc, b"open a\r\n\trange 5  5\r\n"),
+        Some((2, ScriptKind::Limit))
+    );
+    assert_eq!(rt;
+        refused(alloc, b"open a\r\nrange\t5 6 \r\nphase \r\nactor"),
+        None
+    );
+    assert_eq!(rt; refused(alloc, b"open a\n#\xff\nphase\n"), None);
+    assert_eq!(rt;
+        refused(alloc, b"open a\npause \xff\n"),
+        Some((2, ScriptKind::NotText))
+    );
+    assert_eq!(rt; refused(alloc, b"\r"), Some((2, ScriptKind::Order)));
+    assert_eq!(rt;
+        refused(alloc, b"open a\nrange 0 1\nrange 0 2\n"),
+        Some((3, ScriptKind::Order))
+    );
+    assert_eq!(rt;
+        refused(alloc, b"open a\nphase\nget 0 0 0 0\n"),
+        Some((3, ScriptKind::Order))
+    );
+    assert_eq!(rt;
+        refused(alloc, b"open a/../b"),
+        Some((1, ScriptKind::Limit))
+    );
+}
+
+#[test]
+fn limits(rt: HostRuntime) -> Result<(), Fail> {
+    let alloc = rt.alloc();
+    let root = repeated(alloc, "open ", "a", 200)?;
+    assert_eq!(rt; refused(alloc, root.as_bytes()), None);
+    let root = repeated(alloc, "open ", "a", 201)?;
+    assert_eq!(rt;
+        refused(alloc, root.as_bytes()),
+        Some((1, ScriptKind::Limit))
+    );
+    let actors = repeated(alloc, "open a\nphase\n", "actor\n", 16)?;
+    assert_eq!(rt; refused(alloc, actors.as_bytes()), None);
+    let actors = repeated(alloc, "open a\nphase\n", "actor\n", 17)?;
+    assert_eq!(rt;
+        refused(alloc, actors.as_bytes()),
+        Some((19, ScriptKind::Limit))
+    );
+    let phases = repeated(alloc, "open a\n", "phase\n", 1025)?;
+    assert_eq!(rt;
+        refused(alloc, phases.as_bytes()),
+        Some((1026, ScriptKind::Limit))
+    );
+    let longest = repeated(alloc, "raw vol uint8 6 2 2 2 2 2\n", "#", (1 << 20) - 26)?;
+    assert_eq!(rt; refused(alloc, longest.as_bytes()), None);
+    let longer = repeated(alloc, "raw vol uint8 6 2 2 2 2 2\n", "#", (1 << 20) - 25)?;
+    assert_eq!(rt;
+        refused(alloc, longer.as_bytes()),
+        Some((0, ScriptKind::Limit))
+    );
+    Ok(())
+}
+
+#[test]
+fn reads_what_the_lines_say(rt: HostRuntime) -> Result<(), Fail> {
+    let text =
+        b"raw a/b uint16 5 6 7 2 3 4\nrange 1 9\nphase\nactor\n  get 0 1 2 3\nset 7 007 2 3 9\nactor\nphase";
+    let script = read_script(rt.alloc(), text)?;
+    match &script.head {
+        Head::Raw {
+            root,
+            kind,
+            dims,
+            cell,
+        } => {
+            assert_eq!(rt; root.as_str(), "a/b");
+            assert_eq!(rt; *kind, Kind::U16);
+            assert_eq!(rt; *dims, [5, 6, 7]);
+            assert_eq!(rt; *cell, [2, 3, 4]);
+        }
+        Head::Pyramid { .. } => assert!(rt; false),
+    }
+    assert_eq!(rt; script.range, Some([1, 9]));
+    assert_eq!(rt; script.phases.len(), 2);
+    let first = script.phases.as_slice().first().expect(&rt, "a phase");
+    assert_eq!(rt; first.len(), 2);
+    let commands = first.as_slice().first().expect(&rt, "an actor");
+    assert_eq!(rt; commands.len(), 2);
+    assert_eq!(rt;
+        commands.as_slice().first(),
+        Some(&Command::Get {
+            level: 0,
+            pos: [1, 2, 3]
+        })
+    );
+    assert_eq!(rt;
+        commands.as_slice().last(),
+        Some(&Command::Set {
+            level: 7,
+            pos: [7, 2, 3],
+            value: 9
+        })
+    );
+    let last = script.phases.last().expect(&rt, "a phase");
+    assert_eq!(rt; last.len(), 0);
+    Ok(())
+}
