@@ -1,0 +1,9 @@
+pub mod Cause
+pub mod Counts
+pub mod Dataset
+pub mod Info
+pub mod Printed
+pub mod Reply
+pub mod Report
+pub mod Stop
+pub mod Words

@@ -1,0 +1,85 @@
+// What a command answers, and how it is written.
+ghost use Rattle.std.specs.Prelude.{◌≡◌, Some};
+ghost use Rattle.run_report.specs.Reply.{answer_text, refusal_text, refuses, reply_text};
+
+use crate::cause::Cause;
+use cell_file::AcquireErr;
+use std::fmt;
+
+/// Why a command was not done.
+#[derive(Clone, Copy, Debug, PartialEq, Eq)]
+pub enum Refusal {
+    /// The level doesn't exist, or the position is outside it.
+    Outside,
+    /// The value is above the greatest of the level's kind.
+    TooLarge { value: u64 },
+    /// The cell could not be had.
+    Acquire(AcquireErr),
+}
+
+/// What a command answers.
+#[derive(Clone, Copy, Debug, PartialEq, Eq)]
+pub enum Answer {
+    Value(u64),
+    Done,
+    Refused(Refusal),
+}
+
+impl Answer {
+    pub fn is_refusal(&self) -> bool
+        ensures { result ≡ refuses self.now }
+    {
+        matches!(self, Answer::Refused(_))
+    }
+}
+
+/// What a command answered, and which command: its phase, its actor in the phase and its call of the actor, each
+/// counted from 0.
+#[derive(Clone, Copy, Debug, PartialEq, Eq)]
+pub struct Reply {
+    pub phase: u32,
+    pub actor: u32,
+    pub call: u32,
+    pub answer: Answer,
+}
+
+impl fmt::Display for Refusal {
+    ghost output = { λ refusal. Some (refusal_text refusal) };
+
+    fn fmt<W: fmt::Write>(&self, f: &mut fmt::Formatter<W>) -> fmt::Result {
+        match *self {
+            Refusal::Outside => write!(f, "outside"),
+            Refusal::TooLarge { value } => write!(f, "too-large {value}"),
+            Refusal::Acquire(err) => {
+                let cause = Cause(err);
+                write!(f, "{cause}")
+            }
+        }
+    }
+}
+
+impl fmt::Display for Answer {
+    ghost output = { λ answer. Some (answer_text answer) };
+
+    fn fmt<W: fmt::Write>(&self, f: &mut fmt::Formatter<W>) -> fmt::Result {
+        match *self {
+            Answer::Value(value) => write!(f, "value {value}"),
+            Answer::Done => write!(f, "done"),
+            Answer::Refused(refusal) => write!(f, "refused {refusal}"),
+        }
+    }
+}
+
+impl fmt::Display for Reply {
+    ghost output = { λ reply. Some (reply_text reply) };
+
+    fn fmt<W: fmt::Write>(&self, f: &mut fmt::Formatter<W>) -> fmt::Result {
+        let Reply {
+            phase,
+            actor,
+            call,
+            answer,
+        } = *self;
+        write!(f, "{phase}.{actor}.{call} {answer}")
+    }
+}
