@@ -225,7 +225,7 @@ fn a_picture_that_was_not_written_has_a_line(rt: HostRuntime) -> Result<(), Fail
     };
     let report = Report::new(Items::new(alloc), tally, Vec::new(alloc));
     let mut name = ArrayString::new();
-    name.push_str("frame-0-0-1.pgm");
+    name.push_str("b");
     let unwritten = [Unwritten {
         name,
         memory: false,
@@ -233,7 +233,7 @@ fn a_picture_that_was_not_written_has_a_line(rt: HostRuntime) -> Result<(), Fail
     let text = report.text(alloc, &unwritten)?;
     assert_eq!(rt;
         text.as_str(),
-        "tally hits 0 misses 0 loads 0 evictions 0 writebacks 0 closed 0\nunwritten frame-0-0-1.pgm write-fault\n"
+        "tally hits 0 misses 0 loads 0 evictions 0 writebacks 0 closed 0\nunwritten b write-fault\n"
     );
     assert_eq!(rt; report.status(&unwritten), 5);
     Ok(())
