@@ -30,7 +30,7 @@ Works None old new work = (work ≡ Err Usage) × (new ≡ old)
 Works (Some root) old new work = Reads root old new work
 
 -- What a call does to its store and to its sink, and its status.
-pub record Informs (words : List (List ℕ)) (old new : Contents) (before after : Stream) (status : ℕ) : Type 1 where
+pub record Informs (words : List (List ℕ)) (old new : Contents) (before after : Stream) (status : ℕ) : Type 0 where
   pub work : Result (List Level) Stop
   pub works : Works (root_in words) old new work
   pub ends : Ends work before after status

@@ -1,5 +1,5 @@
 -- How a call ends: the text and the status of what was read.
-use Rattle.std.specs.Prelude.{◌≡◌, ℕ, List, Result, Ok, Err, Unit}
+use Rattle.std.specs.Prelude.{◌≡◌, ℕ, List, Result, Ok, Err}
 use Rattle.cell_grid.specs.declared.level.Level.{Level}
 use Rattle.cell_store.specs.Stream.{Stream}
 use Rattle.run_report.specs.declared.print.PrintErr.{PrintErr}
@@ -20,13 +20,12 @@ status_of (Ok levels) = 0
 status_of (Err stop) = status_of_stop stop
 
 -- a text that is not printed whole decides the status
-abbrev pub status_after : {U : Type 0} → Result (List Level) Stop → Result U PrintErr → ℕ
-status_after work (Ok u) = status_of work
+abbrev pub status_after : Result (List Level) Stop → Result (Unit {0}) PrintErr → ℕ
+status_after work (Ok _) = status_of work
 status_after work (Err err) = status_of_print err
 
 -- The text was printed, whole or in part, and the status is that of the printing and of what was read.
-pub record Ends (work : Result (List Level) Stop) (old new : Stream) (status : ℕ) : Type 1 where
-  pub Printed : Type 0
-  pub printed : Result Printed PrintErr
+pub record Ends (work : Result (List Level) Stop) (old new : Stream) (status : ℕ) : Type 0 where
+  pub printed : Result (Unit {0}) PrintErr
   pub prints : Prints old new (text_of work) printed
   pub status_is : status ≡ status_after work printed
