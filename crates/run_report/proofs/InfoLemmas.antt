@@ -1,8 +1,7 @@
 -- The lines of a pyramid's levels, one after another, and the sizes of its counts.
-use Rattle.std.proofs.Common.{◌≡◌, ◌∙◌, ℕ, zero, suc, ◌+◌, ◌*◌, ◌<◌, ◌≤◌, ◌^◌, List, [], ◌∷◌, ◌++◌, Option, Some, None, length, take, slice_get, refl, ap, sym, append_assoc, append-nil, arith, add-one, add-zero}
+use Rattle.std.proofs.Common.{◌≡◌, ◌∙◌, ℕ, zero, suc, ◌+◌, ◌*◌, ◌<◌, ◌≤◌, ◌^◌, List, [], ◌∷◌, ◌++◌, Some, length, take, slice_get, refl, ap, sym, append_assoc, append-nil, arith, add-one, add-zero}
 use Rattle.std.specs.Int.{div_ceil}
 use Rattle.std.specs.List.{enumerate_from, flat_map}
-use Rattle.std.proofs.lemmas.Grind.{common_steps}
 use Rattle.std.proofs.lemmas.List.Concat.{flat_map-cons}
 use Rattle.std.proofs.lemmas.List.FromFn.{length-enumerate_from}
 use Rattle.std.proofs.lemmas.List.{take_all}

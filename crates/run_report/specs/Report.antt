@@ -1,6 +1,5 @@
 -- The report of a run, as text and as a status.
 use Rattle.std.specs.Prelude.{ℕ, ◌||◌, List, ◌++◌, Bool, true, false, not, codes, if◌then◌else◌}
-use Rattle.std.specs.Fmt.{decimal}
 use Rattle.std.specs.List.{flat_map, list_any}
 use Rattle.arr_history.specs.declared.closed.Unsaved.{Unsaved}
 use Rattle.run_report.specs.declared.reply.Reply.{Reply}

@@ -1,5 +1,5 @@
 -- Why a call ends without a report, as a status and as a line.
-use Rattle.std.specs.Prelude.{ℕ, List, ◌++◌, codes}
+use Rattle.std.specs.Prelude.{ℕ, List, codes}
 use Rattle.std.specs.Fmt.{decimal}
 use Rattle.view_script.specs.declared.script_error.ScriptErr.{ScriptErr}
 use Rattle.view_script.specs.declared.script_error.ScriptErr.TheVariants as script

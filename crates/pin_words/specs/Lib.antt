@@ -1,0 +1,12 @@
+pub mod Plan
+pub mod Standing
+pub mod Account
+pub mod Layout
+pub mod Words
+pub mod Rule
+pub mod Finding
+pub mod Tells
+pub mod Pins
+pub mod Cells
+pub mod Lanes
+pub mod Ends
