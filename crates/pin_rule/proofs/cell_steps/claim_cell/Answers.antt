@@ -1,0 +1,46 @@
+use Rattle.std.proofs.Common.{rules, ap, sym, refl, ◌∙◌, ◌≡◌, ℕ, ◌+◌, ◌-◌, ◌%◌, ◌^◌, ◌==◌, eqb, true, false, Option, Some, None, subst, arith}
+use mathlib.Core.Option.{none}
+use prog.Atomic.{either}
+use Rattle.std.specs.Prelude.{bit_or}
+use Rattle.atomic_table.specs.Table.{step, Allows}
+use Rattle.pin_words.specs.declared.holding.Pin.{Pin}
+use Rattle.pin_words.specs.Rule.{Ruled}
+use Rattle.pin_words.specs.Layout.{face}
+use Rattle.pin_words.specs.Plan.{Plan, shape_of, start_of}
+use Rattle.pin_words.specs.Cells as cells
+use Rattle.pin_words.specs.Pins as pins
+use Rattle.pin_words.specs.Finding.{left_of}
+use Rattle.pin_words.proofs.Claiming.{claims_cell, drops_cell}
+use Rattle.pin_words.proofs.Publishing.{publishes_cell}
+use Rattle.pin_words.proofs.Closing.{closes_cell}
+use Rattle.pin_words.proofs.Leaving.{goes_cell, backs_cell}
+use Rattle.pin_words.proofs.Visiting.{visits_cell, goes_back, missed_after}
+use Rattle.pin_words.proofs.Pinning.{unpins_cell, marks_cell, reads_voxel}
+use Rattle.pin_words.proofs.Writing.{writes_voxel}
+use Rattle.pin_words.proofs.Slots.{takes_slot, gives_slot}
+use Rattle.pin_rule.specs.Plans.{plan_of}
+use Rattle.pin_rule.specs.Calls.{pin_of}
+use Rattle.pin_rule.proofs.Finds.{picks_pin, picks_claim, picks_held, picks_held_own, held_slot, picks_left, left_cell}
+use Rattle.pin_rule.proofs.Resting.{made_plan, rests_as, number_as, carried_noted}
+use Rattle.pin_rule.proofs.cell_steps.claim_cell.Goals as goal
+
+pub compare_exchange-found-requires : goal.compare_exchange-found-requires
+compare_exchange-found-requires g c = let plan = plan_of g.S.Store.contents in (search rules, search rules, claims_cell (plan (Some c.args.words.now.key)) plan refl _ _ c.args.seat.now.me c.args.cell c.requires.rests.1 c.requires.cell)
+
+pub returns-then-found-ne0-clause-seat : goal.returns-then-found-ne0-clause-seat
+returns-then-found-ne0-clause-seat g c = (search rules, search rules, number_as c.args.seat.now.me.0 _ _ ((c.compare_exchange-found.ensures.2 c.args.cell refl).2 (search rules)).1.is refl)
+
+pub returns-then-found-ne0-clause-rests : goal.returns-then-found-ne0-clause-rests
+returns-then-found-ne0-clause-rests g c = let t = c.compare_exchange-found.ensures.2 c.args.cell refl in rests_as c.args.seat.now.me c.compare_exchange-found.new.seat.me c.args.words.now.key _ c.requires.rests t.0 (t.2 (search rules)).1.is refl refl refl
+
+pub returns-then-found-ne0-clause-done : goal.returns-then-found-ne0-clause-done
+returns-then-found-ne0-clause-done g c = subst (λ (m : Option _). cells.IsTaken (plan_of g.S.Store.contents m) c.args.seat.now.me.0 c.args.cell c.compare_exchange-found.result c.compare_exchange-found.new.seat.me.0) c.requires.rests.0 ((c.compare_exchange-found.ensures.2 c.args.cell refl).2 (search rules))
+
+pub returns-clause-seat : goal.returns-clause-seat
+returns-clause-seat g c = (search rules, search rules, number_as c.args.seat.now.me.0 _ _ ((c.compare_exchange-found.ensures.2 c.args.cell refl).1 (search rules)).is refl)
+
+pub returns-clause-rests : goal.returns-clause-rests
+returns-clause-rests g c = let t = c.compare_exchange-found.ensures.2 c.args.cell refl in rests_as c.args.seat.now.me c.compare_exchange-found.new.seat.me c.args.words.now.key _ c.requires.rests t.0 (t.1 (search rules)).is refl refl refl
+
+pub returns-clause-done : goal.returns-clause-done
+returns-clause-done g c = subst (λ (m : Option _). cells.IsClaimed (plan_of g.S.Store.contents m) c.args.seat.now.me.0 c.args.cell c.compare_exchange-found.new.seat.me.0) c.requires.rests.0 ((c.compare_exchange-found.ensures.2 c.args.cell refl).1 (search rules))

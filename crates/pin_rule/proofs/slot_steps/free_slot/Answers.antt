@@ -1,0 +1,50 @@
+use Rattle.std.proofs.Common.{rules, ap, sym, refl, ◌∙◌, ◌≡◌, ℕ, ◌+◌, ◌-◌, ◌%◌, ◌^◌, ◌==◌, eqb, true, false, Option, Some, None, subst, arith}
+use mathlib.Core.Option.{none}
+use prog.Atomic.{either}
+use Rattle.std.specs.Prelude.{bit_or}
+use Rattle.atomic_table.specs.Table.{step, Allows}
+use Rattle.pin_words.specs.declared.holding.Pin.{Pin}
+use Rattle.pin_words.specs.Rule.{Ruled}
+use Rattle.pin_words.specs.Layout.{face}
+use Rattle.pin_words.specs.Plan.{Plan, shape_of, start_of}
+use Rattle.pin_words.specs.Cells as cells
+use Rattle.pin_words.specs.Pins as pins
+use Rattle.pin_words.specs.Finding.{left_of}
+use Rattle.pin_words.proofs.Claiming.{claims_cell, drops_cell}
+use Rattle.pin_words.proofs.Publishing.{publishes_cell}
+use Rattle.pin_words.proofs.Closing.{closes_cell}
+use Rattle.pin_words.proofs.Leaving.{goes_cell, backs_cell}
+use Rattle.pin_words.proofs.Visiting.{visits_cell, goes_back, missed_after}
+use Rattle.pin_words.proofs.Pinning.{unpins_cell, marks_cell, reads_voxel}
+use Rattle.pin_words.proofs.Writing.{writes_voxel}
+use Rattle.pin_words.proofs.Slots.{takes_slot, gives_slot}
+use Rattle.pin_rule.specs.Plans.{plan_of}
+use Rattle.pin_rule.specs.Calls.{pin_of}
+use Rattle.pin_rule.proofs.Finds.{picks_pin, picks_claim, picks_held, picks_held_own, held_slot, picks_left, left_cell}
+use Rattle.pin_rule.proofs.Resting.{made_plan, rests_as, number_as, carried_noted}
+use Rattle.std.proofs.Common.{List, [], ◌∷◌, ◌++◌, length, take, ◌<◌, ◌≤◌}
+use Rattle.atomic_table.specs.Table.{rest}
+use Rattle.pin_words.specs.declared.lane.Taken.{Taken}
+use Rattle.pin_words.specs.declared.doing.Doing.{Doing}
+use Rattle.pin_words.specs.Account.{Returns}
+use Rattle.pin_words.specs.Layout.{slot_at, lane_at, frame_at}
+use Rattle.pin_words.specs.Finding.{held_of, helds_without}
+use Rattle.pin_words.specs.Cells.{Begun, IsDue}
+use Rattle.pin_words.specs.Lanes.{TakesLane, MissesLane, GivesLane}
+use Rattle.pin_rule.specs.Calls.{carried}
+use Rattle.pin_rule.proofs.Resting.{taken_first, is_some, same_some}
+use Rattle.pin_rule.proofs.Fills.{takes_slot_as, gives_slot_as, stores_as, fills_as, looks_as, begun_none, begun_more, begun_all, whole_of}
+use Rattle.pin_rule.proofs.LaneSeats.{takes_as, gives_as, taken_rests, taken_number, put_carries, given_rests}
+use Rattle.pin_rule.proofs.slot_steps.free_slot.Goals as goal
+
+pub store-requires : goal.store-requires
+store-requires g c = let plan = plan_of g.S.Store.contents in let p = plan (Some c.args.words.now.key) in (search rules, search rules, gives_slot_as p plan refl _ _ c.args.seat.now.me c.args.slot c.args.word c.requires.rests.1 c.requires.held c.requires.place)
+
+pub returns-clause-seat : goal.returns-clause-seat
+returns-clause-seat g c = (search rules, search rules, number_as c.args.seat.now.me.0 c.store.new.seat.me.0 _ (c.store.ensures.2 c.args.slot (c.requires.place ∙ (λ i. slot_at (plan_of g.S.Store.contents (sym c.requires.rests.0 i)) c.args.slot))).1 refl)
+
+pub returns-clause-rests : goal.returns-clause-rests
+returns-clause-rests g c = rests_as c.args.seat.now.me c.store.new.seat.me c.args.words.now.key _ c.requires.rests (c.store.ensures.2 c.args.slot (c.requires.place ∙ (λ i. slot_at (plan_of g.S.Store.contents (sym c.requires.rests.0 i)) c.args.slot))).0 (c.store.ensures.2 c.args.slot (c.requires.place ∙ (λ i. slot_at (plan_of g.S.Store.contents (sym c.requires.rests.0 i)) c.args.slot))).1 refl refl refl
+
+pub returns-clause-done : goal.returns-clause-done
+returns-clause-done g c = (c.store.ensures.2 c.args.slot (c.requires.place ∙ (λ i. slot_at (plan_of g.S.Store.contents (sym c.requires.rests.0 i)) c.args.slot))).1

@@ -1,0 +1,2 @@
+-- Lemmas of the top call.
+mod SourceLemmas
