@@ -1,6 +1,0 @@
-pub mod Finds
-pub mod Resting
-pub mod AtWords
-pub mod Fills
-pub mod LaneSeats
-pub mod Draining

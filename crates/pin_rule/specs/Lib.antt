@@ -1,4 +1,0 @@
-pub mod Plans
-pub mod Calls
-pub mod Trails
-mod Trying

@@ -1,2 +1,0 @@
--- Lemmas of the top call.
-mod SourceLemmas
