@@ -1,0 +1,20 @@
+use Rattle.std.proofs.Common.{◌≡◌, ◌≢◌, ◌∙◌, ◌+◌, ◌-◌, ◌<◌, ◌≤◌, ℕ, Bool, true, false, IsTrue, List, [], ◌∷◌, ◌++◌, Option, Some, None, Err, OnOk, OnErr, length, map, nat_lt, take, slice_index, slice_set, sym, ap, subst, refl, arith}
+use Rattle.std.proofs.lemmas.Grind.{common_steps}
+use Rattle.std.proofs.lemmas.Bool.Decides.{nat_tests}
+use Rattle.std.specs.Vec.{vec_capacity}
+use Rattle.cell_store.specs.Store.{Contents}
+use Rattle.recency.specs.Order.{Order, touched}
+use Rattle.arr_history.specs.Tally.{IsTally}
+use Rattle.arr_history.specs.declared.tally.Tally.{Tally}
+use Rattle.arr_history.specs.declared.event.Event.TheVariants as happening
+use Rattle.arr_history.proofs.Counts.{raised_fits}
+use Rattle.sole_cache.specs.Slot.{SlotValue, with_pins, with_value, loaded_with, emptied}
+use Rattle.sole_cache.specs.Cached.{Cached, slot_of, slot_at, store_of, handles_out}
+use Rattle.sole_cache.specs.Value.{CacheValue, by, over, vacated}
+use Rattle.sole_cache.specs.Valid.{IsCache, IsKept}
+use Rattle.sole_cache.specs.Moves.{Moves, Runs}
+use Rattle.sole_cache.proofs.Replaces.{all_filled}
+use Rattle.sole_cache.proofs.cache.SoleCache.refill.Goals as goal
+
+pub all_taken-requires : goal.all_taken-requires
+all_taken-requires g c = rw c.in-Ok.ensures.seated.1.1 (all_filled c.args.self.now.slots c.args.slot c.args.cell c.in-Ok.ensures.seated.1.0 c.requires.slot c.requires.one)
