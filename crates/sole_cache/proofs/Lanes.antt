@@ -1,0 +1,96 @@
+-- Stores in a list, and what a call on one of them shows.
+use Rattle.std.proofs.Common.{◌≡◌, ◌∙◌, ℕ, zero, suc, ◌<◌, ◌≤◌, true, false, IsTrue, List, [], ◌∷◌, ◌++◌, length, map, take, Option, Some, Result, Ok, Err, OnOk, OnErr, IfErr, if◌then◌else◌, slice_index_or, slice_set, get_or-set_same, refl, sym, ap, subst, arith}
+use Rattle.std.proofs.Math.Seq.{take-append_seam}
+use Rattle.std.proofs.lemmas.List.{map-set}
+use Rattle.cell_store.specs.Store.{Contents, SameElsewhere, put_in}
+use Rattle.cell_file.specs.declared.errors.FetchErr.{FetchErr}
+use Rattle.cell_file.specs.declared.errors.SaveErr.{SaveErr}
+use Rattle.cell_file.specs.File.{put_entry, LogsFetch, LogsRefusedFetch, LogsRefusedSave}
+use Rattle.sole_cache.specs.Cached.{silent, store_in}
+use Rattle.sole_cache.specs.Moves.{Fetched, Saved}
+use Rattle.sole_cache.proofs.Logs.{same_key, fetch_log, fetch_got, refused_log, one_put, refused_put}
+
+false_true : false ≡ true → ⊥
+false_true e = cc
+
+-- two equal things in place of two
+pub both : {X Y : Type 0} (P : X → Y → Type 0) (a b : X) (x y : Y) → a ≡ b → x ≡ y → P b y → P a x
+both P a b x y e f h = subst (λ z. P a z) (sym f) (subst (λ z. P z y) (sym e) h)
+
+pub map_length : {X Y : Type 0} (f : X → Y) (xs : List X) → length (map f xs) ≡ length xs
+map_length f [] = refl
+map_length f (x ∷ xs) = ap suc (map_length f xs)
+
+module _ {S : Type 0} (contents : S → Contents) where
+  -- what a store in a list shows, and what one shows that was put there
+  pub was_store : (xs : List S) (i : ℕ) (s : S) → s ≡ slice_index_or xs i s → i < length xs → store_in (map contents xs) i ≡ contents s
+  was_store [] i s e lt = absurd (omega (arith, lt))
+  was_store (x ∷ xs) zero s e lt = ap contents (sym e)
+  was_store (x ∷ xs) (suc i) s e lt = was_store xs i s e (omega (arith, lt))
+
+  pub is_store : (xs : List S) (i : ℕ) (s : S) → i < length xs → store_in (map contents (slice_set xs i s)) i ≡ contents s
+  is_store xs i s lt = ap (λ l. slice_index_or l i silent) (map-set contents xs i s) ∙ get_or-set_same (map contents xs) i (contents s) silent (subst (λ k. i < k) (sym (map_length contents xs)) lt)
+
+  pub one_store : (xs : List S) (i : ℕ) (s : S) → i < length xs → map contents (slice_set xs i s) ≡ slice_set (map contents xs) i (store_in (map contents (slice_set xs i s)) i)
+  one_store xs i s lt = map-set contents xs i s ∙ ap (slice_set (map contents xs) i) (sym (is_store xs i s lt))
+
+-- a list that was lent as a whole comes back as a whole
+pub whole : (len : ℕ) (out rest : List ℕ) → length out ≡ len → take len (out ++ rest) ≡ out
+whole len out rest h = subst (λ k. take k (out ++ rest) ≡ out) h (take-append_seam out rest)
+
+pub fetched_ok : {X : Type 0} (r : Result X FetchErr) (key base : List ℕ) (old new : Contents) → new.told ≡ old.told → new.told_log ≡ old.told_log → old.faults ≤ new.faults → (IsTrue old.told → new.held ≡ old.held)
+    → (IsTrue old.told_log → OnOk r (LogsFetch old.log new.log key base)) → OnOk r (Fetched key true old new)
+fetched_ok (Ok x) key base old new told told_log never held logs = record {
+  moves = record { told = told; told_log = told_log; never_falls = never };
+  held = held;
+  no_put = λ other t. (fetch_log old.log new.log key base (logs t)).no_put other;
+  gets = λ other t. (fetch_log old.log new.log key base (logs t)).gets other;
+  got = λ _ t. fetch_got old.log new.log key base (logs t);
+}
+fetched_ok (Err e) key base old new told told_log never held logs = tt
+
+pub fetched_err : {X : Type 0} (r : Result X FetchErr) (key base : List ℕ) (old new : Contents) → new.told ≡ old.told → new.told_log ≡ old.told_log → old.faults ≤ new.faults → (IsTrue old.told → new.held ≡ old.held)
+    → (IsTrue old.told_log → IfErr r (λ err. LogsRefusedFetch old.log new.log key base err)) → OnErr r (Fetched key false old new)
+fetched_err (Ok x) key base old new told told_log never held logs = tt
+fetched_err (Err e) key base old new told told_log never held logs = record {
+  moves = record { told = told; told_log = told_log; never_falls = never };
+  held = held;
+  no_put = λ other t. (refused_log old.log new.log key base e (logs t)).no_put other;
+  gets = λ other t. (refused_log old.log new.log key base e (logs t)).gets other;
+  got = λ f _. absurd (false_true f);
+}
+
+pub saved_ok : {X : Type 0} (r : Result X SaveErr) (key : List ℕ) (old new : Contents) → new.told ≡ old.told → new.told_log ≡ old.told_log → old.faults ≤ new.faults → (IsTrue old.told → SameElsewhere old.held new.held key)
+    → (IsTrue old.told_log → OnOk r (new.log ≡ old.log ++ put_entry key true ∷ [])) → OnOk r (Saved key true old new)
+saved_ok (Ok x) key old new told told_log never held logs = record {
+  moves = record { told = told; told_log = told_log; never_falls = never };
+  held = held;
+  gets = λ other t. (one_put old.log new.log key true (logs t)).gets other;
+  other_puts = λ other ne t. (one_put old.log new.log key true (logs t)).other_puts other ne;
+  puts = λ t. (one_put old.log new.log key true (logs t)).puts;
+}
+saved_ok (Err e) key old new told told_log never held logs = tt
+
+pub saved_err : {X : Type 0} (r : Result X SaveErr) (key : List ℕ) (old new : Contents) → new.told ≡ old.told → new.told_log ≡ old.told_log → old.faults ≤ new.faults → (IsTrue old.told → SameElsewhere old.held new.held key)
+    → (IsTrue old.told_log → IfErr r (λ err. LogsRefusedSave old.log new.log key err)) → OnErr r (Saved key false old new)
+saved_err (Ok x) key old new told told_log never held logs = tt
+saved_err (Err e) key old new told told_log never held logs = record {
+  moves = record { told = told; told_log = told_log; never_falls = never };
+  held = held;
+  gets = λ other t. (refused_put old.log new.log key e (logs t)).gets other;
+  other_puts = λ other ne t. (refused_put old.log new.log key e (logs t)).other_puts other ne;
+  puts = λ t. (refused_put old.log new.log key e (logs t)).puts;
+}
+
+-- what holds in one case of an answer holds of what follows from it
+pub map_ok : {X E : Type 0} (r : Result X E) (A B : Type 0) → (A → B) → OnOk r A → OnOk r B
+map_ok (Ok x) A B f h = f h
+map_ok (Err e) A B f h = tt
+
+-- bytes that were put stand under their key
+pub put_there : (old new : List ℕ → Option (List ℕ)) (key bytes : List ℕ) → ((other : List ℕ) → new other ≡ put_in old key bytes other) → new key ≡ Some bytes
+put_there old new key bytes h = h key ∙ ap (λ b. if b then Some bytes else old key) (same_key key)
+
+pub any_err : {X E : Type 0} (r : Result X E) (A : Type 0) → A → OnErr r A
+any_err (Ok x) A a = tt
+any_err (Err e) A a = a

@@ -1,0 +1,12 @@
+pub mod Slot
+pub mod Cached
+pub mod Value
+pub mod Room
+pub mod Valid
+pub mod Turns
+pub mod Moves
+pub mod Handle
+pub mod Pieces
+pub mod Shut
+pub mod Open
+pub mod Laws

@@ -1,0 +1,89 @@
+-- What a run of a script is: its commands carried out over one cache, which is shut then.
+use Rattle.std.specs.Prelude.{◌≡◌, ◌⊎◌, ℕ, ◌+◌, ◌/◌, ◌^◌, ◌<◌, ◌≤◌, max, min, Bool, true, false, List, ◌++◌, Result, Ok, Err}
+use Rattle.std.specs.List.{count_by}
+use Rattle.std.specs.List.Sorted.{IsNonDecreasingBy, IsPermutation}
+use Rattle.arr_history.specs.declared.closed.Unsaved.{Unsaved}
+use Rattle.arr_history.specs.declared.event.Event.{Event}
+use Rattle.arr_history.specs.Tally.{tally_of}
+use Rattle.cell_file.specs.declared.errors.AcquireErr.TheVariants.{ReadFault, WriteFault}
+use Rattle.cell_file.specs.Keys.{KeyNames}
+use Rattle.cell_grid.specs.declared.level.Level.{Level}
+use Rattle.cell_grid.specs.Pyramid.{frame_of}
+use Rattle.cell_store.specs.Store.{Contents}
+use Rattle.run_report.specs.declared.reply.Answer.{Answer}
+use Rattle.run_report.specs.declared.reply.Answer.TheVariants.{Refused}
+use Rattle.run_report.specs.declared.reply.Refusal.TheVariants.{Acquire}
+use Rattle.run_report.specs.declared.reply.Reply.{Reply}
+use Rattle.run_report.specs.declared.report.Report.{Report}
+use Rattle.sole_cache.specs.Cached.{Cached, shape_of, state_of}
+use Rattle.sole_cache.specs.Moves.{IsStoodFor, Moves}
+use Rattle.sole_cache.specs.Open.{IsOpened}
+use Rattle.sole_cache.specs.Shut.{AreClosed, Licenses, failed_puts}
+use Rattle.team_run.specs.declared.ran.RunErr.{RunErr}
+use Rattle.team_run.specs.declared.ran.RunErr.TheVariants.{Memory, Slots}
+use Rattle.team_run.specs.Plain.{ArePlain, AreSame}
+use Rattle.team_run.specs.Serve.{ServesAll}
+use Rattle.view_script.specs.Script.{NumberedCommand}
+
+-- the fewest slots of a run on one thread
+abbrev pub low : ℕ
+low = 2
+
+-- the most slots: 4096, and no more than 2^24 voxels in all frames
+abbrev pub high_of : List Level → ℕ
+high_of levels = min 4096 (2 ^ 24 / max 1 (frame_of levels))
+
+abbrev pub IsWithin : List Level → ℕ → Type 0
+IsWithin levels slots = (low ≤ slots) × (slots ≤ high_of levels)
+
+abbrev pub IsOutside : List Level → ℕ → Type 0
+IsOutside levels slots = (slots < low) ⊎ (high_of levels < slots)
+
+-- a command was refused for a fault of a store
+abbrev pub is_fault : Answer → Bool
+is_fault (Refused (Acquire ReadFault)) = true
+is_fault (Refused (Acquire WriteFault)) = true
+is_fault other = false
+
+abbrev pub fault_replies : List Reply → ℕ
+fault_replies replies = count_by (λ r. is_fault r.answer) replies
+
+-- Commands are carried out over a cache, each once and in order, and it is shut then; its stores show this in the end.
+pub record Completes (first : Cached) (commands : List NumberedCommand) (after : List Contents) (report : Report) : Type 0 where
+  -- the cache after the last command, and when it was shut
+  pub last : Cached
+  pub shut : Cached
+  pub ends : shut.shown ≡ after
+  -- one legal history leads from the first cache to the last: the events of the commands, and those of the shutting
+  pub run : List Event
+  pub closing : List Event
+  pub history : Moves first (run ++ closing) shut
+  pub served : ServesAll first commands report.replies run last
+  pub unsaved : List Unsaved
+  pub closed : AreClosed last.slots unsaved closing
+  -- the counts and the unsaved cells that are reported are those of this history
+  pub counts : report.tally ≡ tally_of run closing
+  pub named : IsPermutation unsaved report.unsaved
+  pub ascending : IsNonDecreasingBy (λ u. u.cell) report.unsaved
+  -- the replies are those of plain arrays of voxels, read and written in order
+  pub arrays : ℕ → ℕ → ℕ
+  pub plain : ArePlain first.levels (shape_of first).is_told (state_of first).arrays commands report.replies arrays
+  -- the last arrays are these, and the stores stand for them on each cell that is neither void nor unsaved
+  pub final : AreSame (shape_of first) (state_of shut).arrays arrays
+  pub stood : IsStoodFor shut
+  -- one fault licenses one answer: the counts of the stores rose by as many as are told, as long as none stands at its last value
+  pub licensed : Licenses first.shown (fault_replies report.replies + failed_puts report.unsaved) after
+
+-- The run of commands over a new cache, whose arrays are what its stores stand for.
+pub record IsRunOf (levels : List Level) (keys : KeyNames) (slots : ℕ) (commands : List NumberedCommand) (before after : List Contents) (report : Report) : Type 0 where
+  pub first : Cached
+  pub opened : IsOpened levels keys slots first
+  pub begins : first.shown ≡ before
+  pub completes : Completes first commands after report
+
+-- What a run on one thread answers. The slots are refused exactly where they are outside the limits; where there is no run the stores come
+-- back as they were.
+abbrev pub SoloAnswers : List Level → KeyNames → ℕ → List NumberedCommand → List Contents → List Contents → Result Report RunErr → Type 0
+SoloAnswers levels keys slots commands before after (Ok report) = IsWithin levels slots × IsRunOf levels keys slots commands before after report
+SoloAnswers levels keys slots commands before after (Err (Slots found least most)) = IsOutside levels slots × (found ≡ slots) × (least ≡ low) × (most ≡ high_of levels) × (after ≡ before)
+SoloAnswers levels keys slots commands before after (Err Memory) = IsWithin levels slots × (after ≡ before)
