@@ -1,0 +1,99 @@
+#!/usr/bin/env python3
+"""Runs the built program over real folders, and compares what it writes with what it is to write.
+
+    tools/check_program.py [PROGRAM]        (PROGRAM is crates/viewrun/out/viewrun, which `rt ci viewrun` builds)
+
+It shows what no contract can say, since a folder is outside: an edit survives its eviction and a second run; a file where
+the folder of edited cells should be is a fault that changes no other file; scripts without a last line end, without a byte,
+and of one byte too many get their statuses at once. No part of the gate.
+"""
+import os
+import subprocess
+import sys
+import tempfile
+
+TOP = os.path.dirname(os.path.dirname(os.path.abspath(__file__)))
+HEAD = "raw vol uint8 6 2 2 2 2 2\n"
+EDITED = bytes.fromhex("000000030000000200000002000000020900000000000000")
+NOTHING = "tally hits 0 misses 0 loads 0 evictions 0 writebacks 0 closed 0\n"
+
+
+class Folder:
+    """A working folder of a run."""
+
+    def __init__(self, program):
+        self.program = program
+        self.path = tempfile.mkdtemp()
+
+    def write(self, name, data):
+        with open(os.path.join(self.path, name), "wb") as file:
+            file.write(data if isinstance(data, bytes) else data.encode())
+
+    def files(self):
+        found = {}
+        for folder, _, names in os.walk(self.path):
+            for name in names:
+                path = os.path.join(folder, name)
+                with open(path, "rb") as file:
+                    found[os.path.relpath(path, self.path)] = file.read()
+        return found
+
+    def run(self, script, status, text):
+        self.write("script", script)
+        done = subprocess.run([self.program, "solo", "script", "--slots", "2"], cwd=self.path, capture_output=True, timeout=20, check=False)
+        expect("status", done.returncode, status)
+        expect("text", done.stdout.decode(), text)
+        expect("standard error", done.stderr, b"")
+
+
+def expect(what, found, wanted):
+    if found != wanted:
+        sys.exit(f"{what}: found {found!r}, wanted {wanted!r}")
+
+
+def an_edit_survives(program):
+    folder = Folder(program)
+    commands = "phase\nactor\nset 0 0 0 0 9\nget 0 2 0 0\nget 0 4 0 0\nget 0 0 0 0\n"
+    text = "0.0.0 done\n0.0.1 value 0\n0.0.2 value 0\n0.0.3 value 9\ntally hits 0 misses 4 loads 4 evictions 2 writebacks 1 closed 2\n"
+    folder.run(HEAD + commands, 0, text)
+    expect("the edited cell", folder.files()["cells/s0/0/0/0"], EDITED)
+    folder.run(HEAD + "phase\nactor\nget 0 0 0 0\n", 0, "0.0.0 value 9\ntally hits 0 misses 1 loads 1 evictions 0 writebacks 0 closed 1\n")
+
+
+def a_file_in_place_of_a_folder_is_a_fault(program):
+    folder = Folder(program)
+    folder.write("cells", "not a folder")
+    folder.write("other", "stays")
+    text = "0.0.0 refused read-fault\ntally hits 0 misses 1 loads 0 evictions 0 writebacks 0 closed 0\n"
+    folder.run(HEAD + "phase\nactor\nset 0 0 0 0 9\n", 1, text)
+    expect("the files", {name: data for name, data in folder.files().items() if name != "script"}, {"cells": b"not a folder", "other": b"stays"})
+
+
+def a_put_that_fails_names_the_cell(program):
+    folder = Folder(program)
+    os.symlink("nowhere", os.path.join(folder.path, "cells"))
+    folder.write("other", "stays")
+    text = "0.0.0 done\ntally hits 0 misses 1 loads 1 evictions 0 writebacks 0 closed 0\nunsaved 0 write-fault\n"
+    folder.run(HEAD + "phase\nactor\nset 0 0 0 0 9\n", 5, text)
+    expect("the files", {name: data for name, data in folder.files().items() if name != "script"}, {"other": b"stays"})
+
+
+def scripts_get_their_statuses(program):
+    folder = Folder(program)
+    folder.run(HEAD.rstrip("\n"), 0, NOTHING)
+    folder.run("", 3, "script line 1 order\n")
+    folder.run(b"#" * (2**20 + 1), 3, "script line 0 limit\n")
+    folder.run(HEAD + "#" * (2**20 - len(HEAD)), 0, NOTHING)
+
+
+def main():
+    program = os.path.abspath(sys.argv[1]) if len(sys.argv) > 1 else os.path.join(TOP, "crates/viewrun/out/viewrun")
+    an_edit_survives(program)
+    a_file_in_place_of_a_folder_is_a_fault(program)
+    a_put_that_fails_names_the_cell(program)
+    scripts_get_their_statuses(program)
+    print("the program over real folders: as it is to be")
+
+
+if __name__ == "__main__":
+    main()
