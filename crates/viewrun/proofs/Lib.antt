@@ -1,0 +1,4 @@
+-- Lemmas of the call.
+mod NumberLemmas
+mod SourceLemmas
+mod StoresLemmas

@@ -1,21 +1,34 @@
 // The call that the program makes.
-ghost use Rattle.viewrun.specs.Call.{Informs};
+ghost use Rattle.std.specs.Prelude.{◌≤◌, map, vec_len};
+ghost use Rattle.viewrun.specs.Call.{CarriesOut};
 ghost use Rattle.viewrun.specs.Words.{texts};
 
 use crate::ending::end;
-use crate::work::work;
-use cell_store::{Sink, Store};
+use crate::work::{Worked, work};
+use cell_store::{Sink, Source, Store};
 use std::alloc::Global;
 
-/// Does what the words ask for, `info ROOT`, over a store, writes its text to a sink, and gives the status.
-pub fn viewrun_info<S: Store, K: Sink>(
+/// How a call ended: its status, and the stores, which come back in their order at every status.
+#[derive(Drop)]
+pub struct Ended<S> {
+    pub status: u8,
+    pub stores: Vec<S>,
+}
+
+/// Does on one thread what the words ask for, `info ROOT` or `solo SCRIPT --slots N`, over 1 to 16 stores, with the script's
+/// source, and writes its text to a sink.
+pub fn viewrun_alone<S: Store, R: Source, K: Sink>(
     alloc: Global,
     words: &[String],
-    store: &mut S,
+    script: &mut R,
+    stores: Vec<S>,
     out: &mut K,
-) -> u8
-    ensures { Informs (texts words.now) (S.contents store.old) (S.contents store.new) (K.stream out.old) (K.stream out.new) result }
+) -> Ended<S>
+    requires some_stores { 1 ≤ vec_len stores }
+    requires few_stores { vec_len stores ≤ 16 }
+    ensures { CarriesOut (texts words.now) (R.stream script.old) (R.stream script.new) (map S.contents stores.items) (map S.contents result.stores.items) (K.stream out.old) (K.stream out.new) result.status }
 {
-    let work = work(alloc, words, store);
-    end(alloc, out, &work)
+    let Worked { work, stores } = work(alloc, words, script, stores);
+    let status = end(alloc, out, &work);
+    Ended { status, stores }
 }

@@ -4,13 +4,13 @@ ghost use Rattle.run_report.specs.Printed.{Prints};
 ghost use Rattle.viewrun.specs.Ending as ending;
 ghost use Rattle.viewrun.specs.Ending.{Ends};
 
-use cell_grid::Geometry;
+use crate::work::Done;
 use cell_store::Sink;
 use run_report::{PrintErr, Stop, info_text, print_bytes};
 use std::alloc::{AllocError, Global};
 
-/// Writes the text of what was read, and gives the status.
-pub fn end<K: Sink>(alloc: Global, out: &mut K, work: &Result<Geometry, Stop>) -> u8
+/// Writes the text of what was done, and gives the status.
+pub fn end<K: Sink>(alloc: Global, out: &mut K, work: &Result<Done, Stop>) -> u8
     ensures { Ends work.now (K.stream out.old) (K.stream out.new) result }
 {
     match print(alloc, out, work) {
@@ -19,7 +19,7 @@ pub fn end<K: Sink>(alloc: Global, out: &mut K, work: &Result<Geometry, Stop>) -
     }
 }
 
-fn print<K: Sink>(alloc: Global, out: &mut K, work: &Result<Geometry, Stop>) -> Result<(), PrintErr>
+fn print<K: Sink>(alloc: Global, out: &mut K, work: &Result<Done, Stop>) -> Result<(), PrintErr>
     ensures { Prints (K.stream out.old) (K.stream out.new) (ending.text_of work.now) result }
 {
     match text_of(alloc, work) {
@@ -28,20 +28,22 @@ fn print<K: Sink>(alloc: Global, out: &mut K, work: &Result<Geometry, Stop>) -> 
     }
 }
 
-fn text_of(alloc: Global, work: &Result<Geometry, Stop>) -> Result<String, AllocError>
+fn text_of(alloc: Global, work: &Result<Done, Stop>) -> Result<String, AllocError>
     ensures { IfOk result (λ text. string_bytes text ≡ ending.text_of work.now) }
 {
     match work {
-        Ok(geometry) => info_text(alloc, geometry),
+        Ok(Done::Levels(geometry)) => info_text(alloc, geometry),
+        Ok(Done::Ran(report)) => report.text(alloc, &[]),
         Err(stop) => stop.text(alloc),
     }
 }
 
-fn status_of(work: &Result<Geometry, Stop>) -> u8
+fn status_of(work: &Result<Done, Stop>) -> u8
     ensures { result ≡ ending.status_of work.now }
 {
     match work {
-        Ok(_) => 0,
+        Ok(Done::Levels(_)) => 0,
+        Ok(Done::Ran(report)) => report.status(&[]),
         Err(stop) => stop.status(),
     }
 }

@@ -1,30 +1,61 @@
 // What a call does before anything is written.
-ghost use Rattle.viewrun.specs.Call.{Reads, Works};
-ghost use Rattle.viewrun.specs.Words.{root_in, texts};
+ghost use Rattle.std.specs.Prelude.{◌≤◌, map, vec_len};
+ghost use Rattle.viewrun.specs.Words.{request_in, texts};
+ghost use Rattle.viewrun.specs.Work.{Informs, Works};
 
-use crate::words::root_of;
+use crate::solo::run_script;
+use crate::words::{Request, request_of};
 use cell_grid::Geometry;
-use cell_store::Store;
+use cell_store::{Source, Store};
 use n5_meta::open_pyramid;
-use run_report::Stop;
+use run_report::{Report, Stop};
 use std::alloc::Global;
 
-/// Reads the levels that the words ask for, or says why nothing is read.
-pub fn work<S: Store>(alloc: Global, words: &[String], store: &mut S) -> Result<Geometry, Stop>
-    ensures { Works (root_in (texts words.now)) (S.contents store.old) (S.contents store.new) result }
+/// What a call did.
+#[derive(Drop)]
+pub enum Done {
+    /// It read the levels of a pyramid.
+    Levels(Geometry),
+    /// It ran a script.
+    Ran(Report),
+}
+
+/// What was done over stores, or why nothing was, and the stores in their order.
+#[derive(Drop)]
+pub struct Worked<S> {
+    pub work: Result<Done, Stop>,
+    pub stores: Vec<S>,
+}
+
+/// Does what the words ask for, over at least one store.
+pub fn work<S: Store, R: Source>(
+    alloc: Global,
+    words: &[String],
+    script: &mut R,
+    stores: Vec<S>,
+) -> Worked<S>
+    requires some_stores { 1 ≤ vec_len stores }
+    requires few_stores { vec_len stores ≤ 16 }
+    ensures { Works (request_in (texts words.now)) (R.stream script.old) (R.stream script.new) (map S.contents stores.items) (map S.contents result.stores.items) result.work }
 {
-    match root_of(words) {
-        Some(root) => read_levels(alloc, root, store),
-        None => Err(Stop::Usage),
+    match request_of(words) {
+        Some(Request::Info { root }) => inform(alloc, root.text(), stores),
+        Some(Request::Solo { slots, .. }) => run_script(alloc, slots, script, stores),
+        None => Worked {
+            work: Err(Stop::Usage),
+            stores,
+        },
     }
 }
 
-/// Reads the levels of the pyramid under a root.
-fn read_levels<S: Store>(alloc: Global, root: &str, store: &mut S) -> Result<Geometry, Stop>
-    ensures { Reads root.now (S.contents store.old) (S.contents store.new) result }
+/// Reads the levels of the pyramid under a root from the first store.
+fn inform<S: Store>(alloc: Global, root: &str, mut stores: Vec<S>) -> Worked<S>
+    requires { 1 ≤ vec_len stores }
+    ensures { Informs root.now (map S.contents stores.items) (map S.contents result.stores.items) result.work }
 {
-    match open_pyramid(alloc, store, root) {
-        Ok(geometry) => Ok(geometry),
+    let work = match open_pyramid(alloc, &mut stores[0], root) {
+        Ok(geometry) => Ok(Done::Levels(geometry)),
         Err(err) => Err(Stop::Dataset(err)),
-    }
+    };
+    Worked { work, stores }
 }
