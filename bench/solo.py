@@ -14,7 +14,9 @@ import time
 
 TOP = os.path.dirname(os.path.dirname(os.path.abspath(__file__)))
 ROUNDS = 5
-GETS = 50_000
+GETS = 100_000
+# a script holds at most 2^20 bytes, so the gets are dealt over some scripts
+SCRIPTS = 2
 EDITS = 1_000
 SIDE = 32
 
@@ -38,10 +40,10 @@ def script(head, commands):
 def main():
     program = os.path.abspath(sys.argv[1]) if len(sys.argv) > 1 else os.path.join(TOP, "crates/viewrun/out/viewrun")
     small = f"raw v uint8 64 64 64 {SIDE} {SIDE} {SIDE}"
-    inside = [f"get 0 {n % 2 * 40} 1 {n % 9}" for n in range(GETS)]
-    outside = [f"get 0 {99 - n % 2} 1 {n % 9}" for n in range(GETS)]
-    get = seconds(program, script(small, inside), 8) - seconds(program, script(small, outside), 8)
-    print(f"get in a resident cell: {get / GETS * 1e9:.0f} ns (over {GETS:,} gets a run)")
+    inside = [f"get 0 {n % 2 * 40} 1 {n % 9}" for n in range(GETS // SCRIPTS)]
+    outside = [f"get 0 {99 - n % 2} 1 {n % 9}" for n in range(GETS // SCRIPTS)]
+    get = sum(seconds(program, script(small, inside), 8) - seconds(program, script(small, outside), 8) for _ in range(SCRIPTS))
+    print(f"get in a resident cell: {get / GETS * 1e9:.0f} ns (over {GETS:,} gets)")
 
     long = f"raw v uint8 {SIDE} {SIDE} {SIDE * (EDITS + 2)} {SIDE} {SIDE} {SIDE}"
     edits = [f"set 0 0 0 {n * SIDE} 7" for n in range(EDITS + 2)]
