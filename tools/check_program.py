@@ -34,6 +34,8 @@ class Folder:
         for folder, _, names in os.walk(self.path):
             for name in names:
                 path = os.path.join(folder, name)
+                if os.path.islink(path):
+                    continue
                 with open(path, "rb") as file:
                     found[os.path.relpath(path, self.path)] = file.read()
         return found

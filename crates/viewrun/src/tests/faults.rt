@@ -53,6 +53,37 @@ fn a_get_that_fails_once_is_tried_again(rt: HostRuntime) -> Result<(), Fail> {
     Ok(())
 }
 
+/// In turn each get of the first, second, third and fourth load fails; an empty store is asked for two keys a load.
+#[test]
+fn each_get_that_fails_costs_one_reply(rt: HostRuntime) -> Result<(), Fail> {
+    let first =
+        "0.0.0 refused read-fault\n0.0.1 value 0\n0.0.2 value 0\n0.0.3 value 0\ntally hits 0 misses 4 loads 3 evictions 1 writebacks 0 closed 2\n";
+    let second =
+        "0.0.0 done\n0.0.1 refused read-fault\n0.0.2 value 0\n0.0.3 value 9\ntally hits 1 misses 3 loads 2 evictions 0 writebacks 1 closed 2\n";
+    let third =
+        "0.0.0 done\n0.0.1 value 0\n0.0.2 refused read-fault\n0.0.3 value 9\ntally hits 0 misses 4 loads 3 evictions 1 writebacks 1 closed 2\n";
+    let fourth =
+        "0.0.0 done\n0.0.1 value 0\n0.0.2 value 0\n0.0.3 refused read-fault\ntally hits 0 misses 4 loads 3 evictions 2 writebacks 1 closed 1\n";
+    let calls = [
+        (1, first),
+        (2, first),
+        (3, second),
+        (4, second),
+        (6, third),
+        (7, third),
+        (8, fourth),
+    ];
+    for (number, text) in calls {
+        let fail = [number];
+        let held = Held {
+            keys: &[],
+            fail: &fail,
+        };
+        let _ = expect(&rt, rt.alloc(), SOLO, EVICTING, held, 1, text)?;
+    }
+    Ok(())
+}
+
 #[test]
 fn a_bad_block_is_refused(rt: HostRuntime) -> Result<(), Fail> {
     let alloc = rt.alloc();
