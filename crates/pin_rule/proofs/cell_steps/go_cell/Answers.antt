@@ -1,0 +1,21 @@
+use Rattle.std.proofs.Common.{rules, sym, refl, ◌∙◌, Option, Some, subst}
+use Rattle.pin_words.specs.Layout.{face}
+use Rattle.pin_words.specs.Cells as cells
+use Rattle.arr_history.specs.declared.cell_state.CellState.TheVariants as cell
+use Rattle.pin_words.proofs.Leaving.{goes_cell}
+use Rattle.pin_rule.specs.Plans.{plan_of}
+use Rattle.pin_rule.proofs.Finds.{picks_left, left_cell}
+use Rattle.pin_rule.proofs.Resting.{made_plan, rests_as, number_as, carried_noted}
+use Rattle.pin_rule.proofs.cell_steps.go_cell.Goals as goal
+
+pub fetch_sub-requires : goal.fetch_sub-requires
+fetch_sub-requires g c = let plan = plan_of g.S.Store.contents in let p = plan (Some c.args.words.now.key) in (search rules, search rules, goes_cell p (made_plan g.S.Store.contents c.args.words.now.key c.requires.made) plan refl _ _ c.args.seat.now.me c.args.cell c.args.number c.requires.rests.1 (picks_left c.args.cell c.args.seat.now.me.0 c.requires.leaving.0) (left_cell c.args.cell c.args.seat.now.me.0 c.requires.leaving.0) (c.requires.number ∙ (λ i. face (cell.Leaving 0 (sym c.requires.leaving.1 i) (sym c.requires.leaving.2 i)))) (λ m. c.requires.lane (sym c.requires.leaving.2 ∙ m)))
+
+pub returns-clause-seat : goal.returns-clause-seat
+returns-clause-seat g c = (search rules, search rules, number_as c.args.seat.now.me.0 c.fetch_sub.new.seat.me.0 _ ((c.fetch_sub.ensures.2 c.args.cell refl).1.is) refl)
+
+pub returns-clause-rests : goal.returns-clause-rests
+returns-clause-rests g c = let t = (c.fetch_sub.ensures.2 c.args.cell refl) in rests_as c.args.seat.now.me c.fetch_sub.new.seat.me c.args.words.now.key _ c.requires.rests t.0 (t.1.is) refl refl (carried_noted _ _ c.args.seat.now.me.0.lane)
+
+pub returns-clause-done : goal.returns-clause-done
+returns-clause-done g c = subst (λ (m : Option _). cells.IsGone (plan_of g.S.Store.contents m) c.args.seat.now.me.0 c.args.cell c.fetch_sub.new.seat.me.0) c.requires.rests.0 ((c.fetch_sub.ensures.2 c.args.cell refl).1)

@@ -1,0 +1,4 @@
+pub mod Plans
+pub mod Calls
+pub mod Trails
+pub mod Trying

@@ -1,0 +1,79 @@
+-- What the tests say of a pass and of a table.
+use Rattle.std.specs.Prelude.{◌≡◌, ℕ, ◌≤◌, Bool, List, [], ◌∷◌, Some, None}
+use Rattle.arr_history.specs.declared.event.Event.{Event}
+use Rattle.cell_store.specs.Store.{Contents}
+use Rattle.cell_grid.specs.declared.level.Level.{Level}
+use Rattle.cell_grid.specs.declared.kind.Kind.TheVariants.{U8}
+use Rattle.cell_grid.specs.Pyramid.{voxels_of, kind_of}
+use Rattle.cell_file.specs.Keys.{KeyNames}
+use Rattle.pass_roster.specs.Ends.{AllJoined}
+use Rattle.pin_words.specs.declared.doing.Doing.{Doing}
+use Rattle.pin_words.specs.declared.lane.Taken.{Taken}
+use Rattle.pin_words.specs.Words.{passes}
+use Rattle.pin_words.specs.Ends.{IsBare}
+use Rattle.pin_words.specs.Finding.{pin}
+use Rattle.pin_words.specs.Cells.{held, left}
+use Rattle.pin_rule.specs.declared.pins.Pins.{Pins}
+use Rattle.pin_rule.specs.declared.handles.Lane.{Lane}
+use Rattle.pin_rule.specs.Calls.{made_of, cell_count, slot_count, lane_count}
+
+-- it is the same to the roster
+abbrev pub SameRoster : {S M : Type 0} → Doing S M → Doing S M → Type 0
+SameRoster d d' = (d'.number ≡ d.number) × (d'.ended ≡ d.ended) × (d'.drawn ≡ d.drawn)
+
+-- the pass holds nothing, and it is the same to the roster
+abbrev pub StaysBare : {S M : Type 0} → Doing S M → Doing S M → Type 0
+StaysBare d d' = IsBare d' × (d'.number ≡ d.number) × (d'.ended ≡ d.ended) × (d'.drawn ≡ d.drawn)
+
+module _ {S M : Type 0} where
+  -- but for a lane, the pass holds a claim and an empty slot
+  pub record IsLoading (c s : ℕ) (d : Doing S M) : Type 0 where
+    pub pins : d.pins ≡ []
+    pub claims : d.claims ≡ c ∷ []
+    pub slots : d.slots ≡ held s None [] ∷ []
+    pub leaving : d.leaving ≡ []
+
+  -- but for a lane, it holds one pin
+  pub record IsUsing (c s : ℕ) (mark : Bool) (d : Doing S M) : Type 0 where
+    pub pins : d.pins ≡ pin c s mark ∷ []
+    pub claims : d.claims ≡ []
+    pub slots : d.slots ≡ []
+    pub leaving : d.leaving ≡ []
+
+  -- but for a lane, it holds one cell that it has closed
+  pub record IsLeaving (c s : ℕ) (mark : Bool) (d : Doing S M) : Type 0 where
+    pub pins : d.pins ≡ []
+    pub claims : d.claims ≡ []
+    pub slots : d.slots ≡ []
+    pub leaving : (at : List Event) × (d.leaving ≡ left c s mark at ∷ [])
+
+  -- it has lane 0, with a store whose faults have not become fewer
+  pub record HasLane (shows : S → Contents) (lane : Lane S) (d : Doing S M) : Type 0 where
+    pub number : lane.lane ≡ 0
+    pub taken : (o : Taken S) × (d.lane ≡ Some o) × (o.lane ≡ 0) × ((shows o.store).faults ≤ (shows lane.store).faults)
+
+-- the cell has eight voxels of one byte
+pub record IsSmall (levels : List Level) (c : ℕ) : Type 0 where
+  pub voxels : voxels_of levels c ≡ 8
+  pub kind : kind_of levels c ≡ U8
+
+-- a table of three cells, two slots and one lane, over these levels, and keys of the same levels
+pub record IsTried {S : Type 0} (levels : List Level) (keys : KeyNames) (t : Pins S) : Type 0 where
+  pub over : (made_of t).levels.value ≡ levels
+  pub alike : keys.levels ≡ levels
+  pub cells : cell_count t ≡ 3
+  pub slots : slot_count t ≡ 2
+  pub lanes : lane_count t ≡ 1
+
+-- the first pass of a table that was just made
+pub record IsFirst {S M : Type 0} (d : Doing S M) : Type 0 where
+  pub number : d.number ≡ 0
+  pub ended : d.ended ≡ []
+  pub drawn : d.drawn ≡ 1
+  pub bare : IsBare d
+
+-- the first pass, with which its table may be closed
+pub record IsLast {S M : Type 0} (d : Doing S M) : Type 0 where
+  pub number : d.number ≡ 0
+  pub joined : AllJoined passes d
+  pub bare : IsBare d

@@ -1,0 +1,6 @@
+mod closing;
+mod fixture;
+mod hand;
+mod quiet;
+mod steps;
+mod threads;
