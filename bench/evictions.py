@@ -3,9 +3,10 @@
 
     bench/evictions.py [PROGRAM]        (PROGRAM is crates/viewrun/out/viewrun, which `rt ci viewrun` builds)
 
-A run gets one voxel of each of many cells of 16^3 bytes, none of which is stored, so that each get behind the first ones is
-one load and one eviction. Each time is the least of five runs, less that of a run that only fills the slots. No part of the
-gate.
+A run gets one voxel of each of many cells, none of which is stored, so that each get behind the first ones is one load and
+one eviction. Each time is the least of five runs, less that of a run that only fills the slots. With cells of 4^3 bytes the
+frames of all slots lie in the processor's caches, and what is left is the work of the cache's lists; with cells of 16^3 they
+take up to 128 MB, and filling a frame with zeros waits for memory. No part of the gate.
 """
 import os
 import subprocess
@@ -16,16 +17,16 @@ import time
 TOP = os.path.dirname(os.path.dirname(os.path.abspath(__file__)))
 ROUNDS = 5
 EVICTIONS = 20_000
-SIDE = 16
+SIDES = (4, 16)
 SLOTS = (16, 256, 4096)
 
 
-def seconds(program, cells, slots):
+def seconds(program, side, cells, slots):
     """The least seconds of runs that get a voxel of each of these cells."""
     with tempfile.TemporaryDirectory() as folder:
         with open(os.path.join(folder, "script"), "w") as file:
-            file.write(f"raw v uint8 {SIDE * (max(SLOTS) + EVICTIONS)} {SIDE} {SIDE} {SIDE} {SIDE} {SIDE}\nphase\nactor\n")
-            file.writelines(f"get 0 {SIDE * cell} 0 0\n" for cell in range(cells))
+            file.write(f"raw v uint8 {side * (max(SLOTS) + EVICTIONS)} {side} {side} {side} {side} {side}\nphase\nactor\n")
+            file.writelines(f"get 0 {side * cell} 0 0\n" for cell in range(cells))
         best = float("inf")
         for _ in range(ROUNDS):
             start = time.perf_counter()
@@ -39,10 +40,11 @@ def seconds(program, cells, slots):
 
 def main():
     program = os.path.abspath(sys.argv[1]) if len(sys.argv) > 1 else os.path.join(TOP, "crates/viewrun/out/viewrun")
-    print("slots   evictions per second   us per eviction")
-    for slots in SLOTS:
-        spent = seconds(program, slots + EVICTIONS, slots) - seconds(program, slots, slots)
-        print(f"{slots:>5} {EVICTIONS / spent:>22,.0f} {spent / EVICTIONS * 1e6:>17.2f}")
+    print("side of a cell   slots   evictions per second   us per eviction")
+    for side in SIDES:
+        for slots in SLOTS:
+            spent = seconds(program, side, slots + EVICTIONS, slots) - seconds(program, side, slots, slots)
+            print(f"{side:>14} {slots:>7} {EVICTIONS / spent:>22,.0f} {spent / EVICTIONS * 1e6:>17.2f}")
 
 
 if __name__ == "__main__":
