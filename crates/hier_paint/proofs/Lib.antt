@@ -1,0 +1,9 @@
+pub mod Noting
+pub mod Telling
+pub mod Paintings
+pub mod Visiting
+pub mod Working
+pub mod Pictures
+pub mod Framing
+pub mod Coordinates
+pub mod Walking

@@ -1,0 +1,19 @@
+-- What is in a painter's hand.
+use Rattle.std.specs.Prelude.{◌≡◌, ℕ, Option, None, Some}
+use Rattle.hier_paint.specs.declared.hand.Hand.{Hand}
+use Rattle.hier_paint.specs.declared.hand.InHand.{InHand}
+use Rattle.hier_paint.specs.Sight.{Sight}
+
+abbrev pub cell_in : {H : Type 0} → Option (InHand H) → Option ℕ
+cell_in None = None
+cell_in (Some h) = Some h.cell
+
+-- what a hand holds and remembers
+abbrev pub sight : {H : Type 0} → Hand H → Sight
+sight hand = record { held = cell_in hand.held; missed = hand.missed; budget = hand.budget }
+
+module _ {E H : Type 0} (held : E → ℕ) (holds : E → H → Type 0) (cell_of : H → ℕ) where
+  -- the eyes have given out what is in the hand, and nothing else
+  abbrev pub Fits : E → Option (InHand H) → Type 0
+  Fits e None = held e ≡ 0
+  Fits e (Some h) = (held e ≡ 1) × holds e h.handle × (cell_of h.handle ≡ h.cell)

@@ -1,0 +1,15 @@
+//! The painter of slices through a pyramid: each pixel shows the first level, from the wanted one on, that is ready.
+#![tactic(auto)]
+
+mod find;
+mod hand;
+mod paint_rows;
+mod painter;
+mod pixel;
+mod voxel;
+
+pub use painter::paint;
+pub use scale_pick::{Painted, Picture, Strategy, View};
+
+#[cfg(test)]
+mod tests;
