@@ -69,7 +69,7 @@ fn frames_of_the_finest_level(rt: HostRuntime) -> Result<(), Fail> {
     assert!(rt; geometry.levels() == 2);
     let mut cache = cache(alloc, &geometry, &rt)?;
     let mut queue = Queues::new(alloc, 1, 5, 2, 4)?;
-    let mut eyes = SoleEyes::new(&mut cache, &mut queue, &geometry, 0);
+    let mut eyes = SoleEyes::new(&mut cache, &mut queue, 0);
     let mut view = View {
         affine: Affine::new(1, [[1, 0, 0], [0, 1, 0], [0, 0, 0]])?,
         width: 4,
@@ -108,7 +108,7 @@ fn a_frame_of_the_best_level(rt: HostRuntime) -> Result<(), Fail> {
     assert!(rt; geometry.levels() == 2);
     let mut cache = cache(alloc, &geometry, &rt)?;
     let mut queue = Queues::new(alloc, 1, 5, 2, 4)?;
-    let mut eyes = SoleEyes::new(&mut cache, &mut queue, &geometry, 0);
+    let mut eyes = SoleEyes::new(&mut cache, &mut queue, 0);
     let view = View {
         affine: Affine::new(1, [[2, 0, 0], [0, 2, 0], [0, 0, 0]])?,
         width: 2,

@@ -17,9 +17,7 @@ use sole_cache::{SoleCache, SoleHandle};
 pub struct SoleEyes<'a, S: Store> {
     cache: &'a mut SoleCache<S>,
     queue: &'a mut Queues,
-    geometry: &'a Geometry,
     viewer: u32,
-    ghost pyramid: { geometry.now ≡ cache.now.levels },
     ghost cells: { queue.now.cells ≡ cells_of cache.now.levels },
     ghost priorities: { length queue.now.lists ≡ length cache.now.levels },
     ghost viewed: { viewer < queue.now.viewers },
@@ -31,17 +29,11 @@ impl<'a, S: Store> SoleEyes<'a, S> {
     ghost use Rattle.sole_cache.specs.Value.{by};
     ghost use Rattle.volatile_cell.specs.SoleEyes.{IsQueueFor};
 
-    /// Eyes over a cache, of whose pyramid `geometry` is a copy, and over a queue. They take no memory.
-    pub fn new(
-        cache: &'a mut SoleCache<S>,
-        queue: &'a mut Queues,
-        geometry: &'a Geometry,
-        viewer: u32,
-    ) -> SoleEyes<'a, S>
+    /// Eyes over a cache and a queue. They take no memory.
+    pub fn new(cache: &'a mut SoleCache<S>, queue: &'a mut Queues, viewer: u32) -> SoleEyes<'a, S>
         requires free { handles_out (by S.contents cache.old) ≡ 0 }
         requires viewer { viewer < queue.old.viewers }
         requires queue { IsQueueFor queue.old cache.old.levels }
-        requires pyramid { geometry.now ≡ cache.old.levels }
         ensures same_cache { result.cache.ghost_name ≡ cache.entry.ghost_name }
         ensures cache { result.cache.now ≡ cache.old }
         ensures same_queue { result.queue.ghost_name ≡ queue.entry.ghost_name }
@@ -51,7 +43,6 @@ impl<'a, S: Store> SoleEyes<'a, S> {
         SoleEyes {
             cache,
             queue,
-            geometry,
             viewer,
         }
     }
@@ -98,7 +89,7 @@ impl<'a, S: Store> Eyes for SoleEyes<'a, S> {
     ghost same_viewer = { λ a b p u g. g.2 };
 
     fn geometry(&self) -> &Geometry {
-        self.geometry
+        self.cache.geometry()
     }
 
     fn begin(&mut self) -> u32 {
@@ -119,7 +110,7 @@ impl<'a, S: Store> Eyes for SoleEyes<'a, S> {
             Ok(handle) => Ok(Look::Ready(handle)),
             Err(state) => {
                 if budget.asks() {
-                    let hints = hints(self.geometry, cell);
+                    let hints = hints(self.cache.geometry(), cell);
                     self.queue
                         .put(self.viewer, cell, hints.priority, hints.to_front);
                 }

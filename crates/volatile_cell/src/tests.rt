@@ -101,7 +101,7 @@ fn a_cell_is_asked_for_and_loaded(rt: HostRuntime) -> Result<(), Fail> {
     assert_eq!(rt; hints(&geometry, 1), wanted);
     let mut cache = cache(alloc, &geometry, &rt)?;
     let mut queue = Queues::new(alloc, 1, 5, geometry.levels(), 4)?;
-    let mut eyes = SoleEyes::new(&mut cache, &mut queue, &geometry, 0);
+    let mut eyes = SoleEyes::new(&mut cache, &mut queue, 0);
     assert_eq!(rt; eyes.begin(), 0);
     assert_eq!(rt; first_voxel(&mut eyes, Strategy::DontLoad, &rt), None);
     assert_eq!(rt; eyes.next(), None);

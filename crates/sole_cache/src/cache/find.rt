@@ -9,9 +9,17 @@ ghost use Rattle.sole_cache.specs.Room.{IsLowestFree, IsFull, pinned};
 
 use crate::cache::SoleCache;
 use crate::slot::{cell_of, first_free, is_marked};
+use cell_grid::Geometry;
 use cell_store::Store;
 
 impl<S: Store> SoleCache<S> {
+    /// The levels of its pyramid.
+    pub fn geometry(&self) -> &Geometry
+        ensures { result.now ≡ self.now.levels }
+    {
+        &self.geometry
+    }
+
     /// The slot of a cell.
     pub(crate) fn slot_of(&self, cell: u32) -> Option<u32>
         requires { cell < cells_of self.now.levels }
