@@ -1,0 +1,73 @@
+#!/usr/bin/env python3
+"""Times pins, reads, writes, fills and rounds of pin_rule's table, beside the same steps with Rust's own atomics.
+
+    bench/pins.py [PROGRAM]        (PROGRAM is crates/pin_time/out/pin_time, which `rt run` in crates/pin_time builds, and so does `rt ci`)
+
+`one` is one thread, `same` two threads with one cell, `other` two threads with a cell each. Each time is the least of five
+runs of many rounds, less the least of five runs of none, for a round of each thread; that of `fill` is for each of the 64
+voxels of a frame. What the runs print is compared. Where there is a rustc, bench/atomics.rs is built with -O into a folder
+that is removed at the end, and timed by turns with PROGRAM. Two threads are timed only where there are two processors. No
+part of the gate.
+"""
+import os
+import shutil
+import subprocess
+import sys
+import tempfile
+import time
+
+TOP = os.path.dirname(os.path.dirname(os.path.abspath(__file__)))
+RUNS = 5
+VOXELS = 64
+ROUNDS = {"pin": 10_000_000, "read": 50_000_000, "write": 20_000_000, "fill": 300_000, "round": 200_000}
+CASES = [(what, hands) for what in ("pin", "read", "write") for hands in ("one", "same", "other")] + [("fill", "one"), ("round", "one")]
+
+
+def seconds(program, what, hands, rounds):
+    """The seconds of a run, and what it prints."""
+    start = time.perf_counter()
+    printed = subprocess.run([program, what, hands, str(rounds)], capture_output=True, check=True).stdout
+    return time.perf_counter() - start, int(printed)
+
+
+def wanted(what, hands, rounds):
+    """What a run prints."""
+    return rounds * (1 if hands == "one" else 2) * (VOXELS if what == "fill" else 1)
+
+
+def nanoseconds(programs, what, hands):
+    """For each program the nanoseconds of a round, or of a voxel that is filled. The programs run by turns."""
+    best = {(program, rounds): float("inf") for program in programs for rounds in (0, ROUNDS[what])}
+    for _ in range(RUNS):
+        for program, rounds in best:
+            taken, printed = seconds(program, what, hands, rounds)
+            if printed != wanted(what, hands, rounds):
+                sys.exit(f"{program} {what} {hands} {rounds} printed {printed}")
+            best[program, rounds] = min(best[program, rounds], taken)
+    count = ROUNDS[what] * (VOXELS if what == "fill" else 1)
+    return [(best[program, ROUNDS[what]] - best[program, 0]) / count * 1e9 for program in programs]
+
+
+def built(folder):
+    """Rust's own atomics as a program, where there is a rustc."""
+    rustc = shutil.which("rustc")
+    if rustc is None:
+        return []
+    program = os.path.join(folder, "atomics")
+    subprocess.run([rustc, "--edition", "2021", "-O", "-o", program, os.path.join(TOP, "bench/atomics.rs")], check=True)
+    return [program]
+
+
+def main():
+    program = os.path.abspath(sys.argv[1]) if len(sys.argv) > 1 else os.path.join(TOP, "crates/pin_time/out/pin_time")
+    with tempfile.TemporaryDirectory() as folder:
+        programs = [program] + built(folder)
+        print("what   threads   table ns" + ("   atomics ns" if len(programs) > 1 else ""))
+        for what, hands in CASES:
+            if hands == "one" or len(os.sched_getaffinity(0)) > 1:
+                first, *rest = nanoseconds(programs, what, hands)
+                print(f"{what:<6} {hands:<7} {first:>10.2f}" + "".join(f"{other:>13.2f}" for other in rest), flush=True)
+
+
+if __name__ == "__main__":
+    main()

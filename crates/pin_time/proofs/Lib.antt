@@ -1,0 +1,3 @@
+pub mod Filling
+pub mod Ones
+pub mod Shown

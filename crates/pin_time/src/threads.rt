@@ -1,0 +1,92 @@
+// Two threads with the same live cell, or with one each.
+ghost use Rattle.std.specs.Prelude.{◌≡◌, ◌<◌};
+ghost use Rattle.pin_words.specs.Ends.{IsBare};
+ghost use Rattle.pin_rule.specs.Calls.{view, IsPassOf};
+ghost use Rattle.pin_rule.specs.Trying.{StaysBare};
+ghost use Rattle.pin_time.specs.Timed.{IsTimed};
+
+use crate::loops::{load_once, pins_done, reads_done, writes_done};
+use crate::request::{Request, What};
+use crate::table::{Quiet, geometry, table};
+use pin_rule::{Pass, Pins};
+use std::alloc::Global;
+use std::thread::{Threads, join};
+
+/// How many rounds were done with a live cell.
+pub fn live_work(pins: &Pins<Quiet>, pass: &mut Pass<Quiet>, cell: u32, request: Request) -> u64
+    requires pass { IsPassOf pins.now pass.old }
+    requires bare { IsBare (view pass.old) }
+    requires timed { IsTimed pins.now cell }
+    ensures pass { IsPassOf pins.now pass.new × StaysBare (view pass.old) (view pass.new) }
+{
+    match request.what {
+        What::Read => reads_done(pins, pass, cell, request.rounds),
+        What::Write => writes_done(pins, pass, cell, request.rounds),
+        _ => pins_done(pins, pass, cell, request.rounds),
+    }
+}
+
+/// The same with a pass that comes and goes.
+fn half(
+    pins: &Pins<Quiet>,
+    mut pass: Pass<Quiet>,
+    cell: u32,
+    request: Request,
+) -> (Pass<Quiet>, u64)
+    requires pass { IsPassOf pins.now pass × IsBare (view pass) }
+    requires timed { IsTimed pins.now cell }
+    ensures pass { IsPassOf pins.now result.0 × StaysBare (view pass) (view result.0) }
+{
+    let done = live_work(pins, &mut pass, cell, request);
+    (pass, done)
+}
+
+/// Two threads at work, the first with cell 0.
+fn halves<R: Threads + Sync>(
+    rt: &R,
+    pins: &Pins<Quiet>,
+    one: Pass<Quiet>,
+    two: Pass<Quiet>,
+    cell: u32,
+    request: Request,
+) -> ((Pass<Quiet>, u64), (Pass<Quiet>, u64))
+    requires one { IsPassOf pins.now one × IsBare (view one) }
+    requires two { IsPassOf pins.now two × IsBare (view two) }
+    requires timed { IsTimed pins.now 0 × IsTimed pins.now cell }
+    ensures one { IsPassOf pins.now result.0.0 × StaysBare (view one) (view result.0.0) }
+    ensures two { IsPassOf pins.now result.1.0 × StaysBare (view two) (view result.1.0) }
+{
+    join(
+        rt,
+        move ||
+            requires { IsPassOf pins.now one × IsBare (view one) × IsTimed pins.now 0 }
+            ensures { IsPassOf pins.entry.now result.0 × StaysBare (view one) (view result.0) }
+        { half(pins, one, 0, request) },
+        move ||
+            requires { IsPassOf pins.now two × IsBare (view two) × IsTimed pins.now cell }
+            ensures { IsPassOf pins.entry.now result.0 × StaysBare (view two) (view result.0) }
+        { half(pins, two, cell, request) },
+    )
+}
+
+/// How many rounds two threads did, where the second one's cell is 0 or 1. None where memory wanted.
+pub fn done_by_two<R: Threads + Sync>(
+    rt: &R,
+    alloc: Global,
+    cell: u32,
+    request: Request,
+) -> Option<u64>
+    requires cell { cell < 2 }
+{
+    let geometry = geometry(alloc)?;
+    let (pins, mut pass) = table(alloc, &geometry)?;
+    let other = pins.split(&mut pass);
+    load_once(&pins, &mut pass, 0);
+    load_once(&pins, &mut pass, 1);
+    let (first, second) = halves(rt, &pins, pass, other, cell, request);
+    let (mut pass, one) = first;
+    let (other, two) = second;
+    pins.join(&mut pass, other);
+    let (_stores, _trail) = pins.close(pass);
+    Some(one.wrapping_add(two))
+}
