@@ -1,7 +1,7 @@
 #!/usr/bin/env python3
 """Times evictions with 16, 256 and 4096 slots: the same number of cells leaves in each run.
 
-    bench/evictions.py [PROGRAM]        (PROGRAM is crates/viewrun/out/viewrun, which `rt ci viewrun` builds)
+    bench/evictions.py [PROGRAM]        (PROGRAM is crates/viewrun/out/viewrun, which a whole `rt ci` leaves there)
 
 A run gets one voxel of each of many cells, none of which is stored, so that each get behind the first ones is one load and
 one eviction. Each time is the least of five runs, less that of a run that only fills the slots. With cells of 4^3 bytes the

@@ -1,7 +1,7 @@
 #!/usr/bin/env python3
 """Times pins, reads, writes, fills and rounds of pin_rule's table, beside the same steps with Rust's own atomics.
 
-    bench/pins.py [PROGRAM]        (PROGRAM is crates/pin_time/out/pin_time, which `rt run` in crates/pin_time builds, and so does `rt ci`)
+    bench/pins.py [PROGRAM]        (PROGRAM is crates/pin_time/out/pin_time, which a whole `rt ci` leaves there)
 
 `one` is one thread, `same` two threads with one cell, `other` two threads with a cell each. Each time is the least of five
 runs of many rounds, less the least of five runs of none, for a round of each thread; that of `fill` is for each of the 64

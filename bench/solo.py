@@ -1,7 +1,7 @@
 #!/usr/bin/env python3
 """Times the built program: gets in resident cells, and the eviction of edited cells.
 
-    bench/solo.py [PROGRAM]        (PROGRAM is crates/viewrun/out/viewrun, which `rt ci viewrun` builds)
+    bench/solo.py [PROGRAM]        (PROGRAM is crates/viewrun/out/viewrun, which a whole `rt ci` leaves there)
 
 Each time is the least of five runs, less a run of as many lines whose commands are refused as outside the volume, so
 that the reading of the script and the writing of the report are left out. No part of the gate.

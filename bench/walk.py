@@ -1,7 +1,7 @@
 #!/usr/bin/env python3
 """Times the walk of nearest voxels along the rows of a picture, beside the formula at each pixel.
 
-    bench/walk.py [PROGRAM]        (PROGRAM is crates/walk_time/out/walk_time, which `rt ci walk_time` builds)
+    bench/walk.py [PROGRAM]        (PROGRAM is crates/walk_time/out/walk_time, which a whole `rt ci` leaves there)
 
 Views that stand straight and that are turned, in levels of factor 1 and 2. Each time is the least of five runs over many
 pictures of 512 by 512 pixels, less the least of five runs over none. Both ways print the same sum, which is compared. No

@@ -1,7 +1,7 @@
 #!/usr/bin/env python3
 """Runs the built program over real folders, and compares what it writes with what it is to write.
 
-    tools/check_program.py [PROGRAM]        (PROGRAM is crates/viewrun/out/viewrun, which `rt ci viewrun` builds)
+    tools/check_program.py [PROGRAM]        (PROGRAM is crates/viewrun/out/viewrun, which a whole `rt ci` leaves there)
 
 It shows what no contract can say, since a folder is outside: an edit survives its eviction and a second run; a file where
 the folder of edited cells should be is a fault that changes no other file; scripts without a last line end, without a byte,
