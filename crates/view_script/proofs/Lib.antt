@@ -4,7 +4,12 @@ mod LastLemmas
 mod LimitsLemmas
 mod LineLemmas
 mod LinesLemmas
+mod NameLemmas
+mod NamesLemmas
 mod NumberLemmas
 mod ReadingLemmas
 mod SplitLemmas
+mod TakenLemmas
+mod ViewLineLemmas
+mod ViewsLemmas
 mod WordsLemmas

@@ -1,11 +1,12 @@
 -- A script that was read keeps the limits of scripts.
-use Rattle.std.proofs.Common.{◌≡◌, ℕ, ◌+◌, ◌-◌, ◌<◌, ◌≤◌, ◌^◌, List, [], ◌∷◌, ◌++◌, Bool, true, false, Option, Some, None, Result, Ok, Err, length, length-append, slice_get, refl, arith, add-zero}
+use Rattle.std.proofs.Common.{◌≡◌, ℕ, ◌+◌, ◌-◌, ◌<◌, ◌≤◌, ◌^◌, List, [], ◌∷◌, ◌++◌, Bool, true, false, Option, Some, None, Result, Ok, Err, length, length-append, slice_get, refl, inl, inr, arith, add-zero}
 use Rattle.std.specs.Prelude.{IfOk, IfSome, IsTrue, All, sum_by, slice_index, if◌then◌else◌}
+use Rattle.std.specs.List.{IsDistinct}
 use Rattle.std.specs.Option.{ok_or}
-use Rattle.std.specs.Str.{is_utf8}
+use Rattle.std.specs.Str.{bytes_eq, is_utf8}
 use Rattle.std.proofs.lemmas.List.Elements.{All-nil, All-push}
 use Rattle.std.proofs.lemmas.List.Sums.{sum_by_push}
-use Rattle.std.proofs.lemmas.Bool.{ltb-true}
+use Rattle.std.proofs.lemmas.Bool.{cases_lt, ltb-true}
 use Rattle.std.proofs.lemmas.Result.{IfOk-at_ok}
 use Rattle.plain_data.specs.RootName.{is_root_name}
 use Rattle.view_script.specs.declared.command.Command.{Command}
@@ -21,12 +22,14 @@ use Rattle.view_script.specs.declared.script_error.ScriptKind.TheVariants.{NotTe
 use Rattle.view_script.specs.Keyword.{keyword_in}
 use Rattle.view_script.specs.Line.{behind}
 use Rattle.view_script.specs.Lines.{lines_of}
-use Rattle.view_script.specs.Meaning.{said, added, with_line, opened, at_last, actors_in_last, may_stand, is_within_limits, demand, ◌>>=◌, after_said, after_words, after_line, at_line, is_remark, script_from, Answers}
-use Rattle.view_script.specs.Script.{IsScript, IsWithinLimits, root_of, command_count}
+use Rattle.view_script.specs.Meaning.{said, added, with_line, opened, at_last, actors_in_last, may_stand, has_room, is_within_limits, has_own_name, is_new, in_range, demand, ◌>>=◌, after_said, after_words, after_line, at_line, is_remark, script_from, Answers}
+use Rattle.view_script.specs.Script.{IsScript, IsWithinLimits, root_of, command_count, pixel_count, view_names}
 use Rattle.view_script.specs.Words.{words_of}
 use Rattle.view_script.proofs.LastLemmas.{length-at_last, All-at_last, sum_by-at_last}
 use Rattle.view_script.proofs.LineLemmas.{IsLine, line_gives}
 use Rattle.view_script.proofs.LinesLemmas.{lines_fit}
+use Rattle.view_script.proofs.TakenLemmas.{distinct_none, with_room, with_own_name, in_range-room, in_range-name, in_range-within}
+use Rattle.view_script.proofs.ViewsLemmas.{one_more, and_then, pixels-of_none, names-of_none, pixels-phase, names-phase, pixels-actor, names-actor, pixels-command, names-command, no_actor}
 
 -- the limits of a script that lines so far say, which have at most this many commands
 record IsDraft (script : Script) (most : ℕ) : Type 0 where
@@ -36,6 +39,8 @@ record IsDraft (script : Script) (most : ℕ) : Type 0 where
   actors : All (λ actors. length actors ≤ 16) script.phases
   commands : All (All (All IsWithinLimits)) script.phases
   count : command_count script.phases ≤ most
+  pixels : pixel_count script.phases ≤ 2 ^ 26
+  names : IsDistinct bytes_eq (view_names script.phases)
 
 abbrev IsDraftOf : Option Script → ℕ → Type 0
 IsDraftOf None most = Unit {0}
@@ -45,34 +50,38 @@ IsDraftOf (Some script) most = IsDraft script most
 record IsSaid (so_far : Option Script) (said : Line) : Type 0 where
   words : IsLine said
   place : is_within_limits so_far said ≡ true
+  name : is_new so_far said ≡ true
+
+-- the rules of a line as a whole
+abbrev judged : Option Script → Line × List (List ℕ) → Result Line ScriptKind
+judged so_far read = demand (is_within_limits so_far read.0) Limit >>= λ limits. demand (is_new so_far read.0) Order >>= λ name. Ok read.0
 
 said_keeps : (so_far : Option Script) (bytes first : List ℕ) (words : List (List ℕ)) → IfOk (said so_far bytes first words) (IsSaid so_far)
 unfolding said
 said_keeps so_far bytes first words = text (is_utf8 bytes)
   where
-    limits : (says : Line) → IsLine says → (within : Bool) → is_within_limits so_far says ≡ within → IfOk (demand within Limit >>= λ limits. Ok says) (IsSaid so_far)
-    limits says is true within = record { words = is; place = within }
-    limits says is false within = tt
+    limits : (says : Line) → IsLine says → (within : Bool) → is_within_limits so_far says ≡ within → (new : Bool) → is_new so_far says ≡ new
+        → IfOk (demand within Limit >>= λ limits. demand new Order >>= λ name. Ok says) (IsSaid so_far)
+    limits says is true within true new = record { words = is; place = within; name = new }
+    limits says is true within false new = tt
+    limits says is false within new is_new = tt
 
-    behind_first : (read : Result (Line × List (List ℕ)) ScriptKind) → IfOk read (λ read. IsLine read.0)
-        → IfOk (read >>= λ read. demand (is_within_limits so_far read.0) Limit >>= λ limits. Ok read.0) (IsSaid so_far)
-    behind_first (Ok read) is = limits read.0 is (is_within_limits so_far read.0) refl
+    behind_first : (read : Result (Line × List (List ℕ)) ScriptKind) → IfOk read (λ read. IsLine read.0) → IfOk (read >>= judged so_far) (IsSaid so_far)
+    behind_first (Ok read) is = limits read.0 is (is_within_limits so_far read.0) refl (is_new so_far read.0) refl
     behind_first (Err kind) is = tt
 
-    place : (keyword : Keyword) (stands : Bool)
-        → IfOk (demand stands Order >>= λ place. behind keyword words >>= λ read. demand (is_within_limits so_far read.0) Limit >>= λ limits. Ok read.0) (IsSaid so_far)
+    place : (keyword : Keyword) (stands : Bool) → IfOk (demand stands Order >>= λ place. behind keyword words >>= judged so_far) (IsSaid so_far)
     place keyword true = behind_first (behind keyword words) ((line_gives keyword).holds words)
     place keyword false = tt
 
     known : (keyword : Option Keyword)
-        → IfOk (ok_or keyword UnknownWord >>= λ keyword. demand (may_stand so_far keyword) Order >>= λ place. behind keyword words
-        >>= λ read. demand (is_within_limits so_far read.0) Limit >>= λ limits. Ok read.0) (IsSaid so_far)
+        → IfOk (ok_or keyword UnknownWord >>= λ keyword. demand (may_stand so_far keyword) Order >>= λ place. behind keyword words >>= judged so_far) (IsSaid so_far)
     known (Some keyword) = place keyword (may_stand so_far keyword)
     known None = tt
 
     text : (text : Bool)
         → IfOk (demand text NotText >>= λ text. ok_or (keyword_in first) UnknownWord >>= λ keyword. demand (may_stand so_far keyword) Order >>= λ place. behind keyword words
-        >>= λ read. demand (is_within_limits so_far read.0) Limit >>= λ limits. Ok read.0) (IsSaid so_far)
+        >>= judged so_far) (IsSaid so_far)
     text true = known (keyword_in first)
     text false = tt
 
@@ -84,6 +93,8 @@ opened_keeps head most root = record {
   actors = All-nil _;
   commands = All-nil _;
   count = omega arith;
+  pixels = rw pixels-of_none (omega arith);
+  names = rw names-of_none (distinct_none bytes_eq);
 }
 
 phase_keeps : (script : Script) (most : ℕ) → IsDraft script most → length script.phases < 1024 → IsDraft (with_line script line.Phase) (most + 1)
@@ -94,11 +105,9 @@ phase_keeps script most is room = record {
   actors = All-push (λ actors. length actors ≤ 16) script.phases [] is.actors (omega arith);
   commands = All-push (All (All IsWithinLimits)) script.phases [] is.commands (All-nil _);
   count = rw (sum_by_push (sum_by length) script.phases []) (omega (arith, is.count));
+  pixels = rw (pixels-phase script.phases) is.pixels;
+  names = rw (names-phase script.phases) is.names;
 }
-
--- an actor more, without commands
-abbrev one_more : List (List Command) → List (List Command)
-one_more actors = actors ++ [] ∷ []
 
 -- what the last phase has room for
 room_in_last : (phases : List (List (List Command))) (actors : List (List Command)) → actors_in_last phases < 16
@@ -116,17 +125,30 @@ actor_keeps script most is room = record {
   actors = All-at_last (λ actors. length actors ≤ 16) one_more script.phases is.actors (λ actors last few. room_in_last script.phases actors room last);
   commands = All-at_last (All (All IsWithinLimits)) one_more script.phases is.commands (λ actors last all. All-push (All IsWithinLimits) actors [] all (All-nil _));
   count = omega (arith, is.count, sum_by-at_last (sum_by length) one_more 0 script.phases no_more);
+  pixels = rw (pixels-actor script.phases) is.pixels;
+  names = rw (names-actor script.phases) is.names;
 }
   where
     no_more : (actors : List (List Command)) → sum_by length (one_more actors) ≤ sum_by length actors + 0
     no_more actors = rw (sum_by_push length actors []) (omega arith)
 
--- a command more of the last actor
-abbrev and_then : Command → List (List Command) → List (List Command)
-and_then command = at_last (λ commands. commands ++ command ∷ [])
+-- the pixels and the names of a script that takes a command
+command_pixels : (phases : List (List (List Command))) (command : Command) → pixel_count phases ≤ 2 ^ 26 → has_room (pixel_count phases) command ≡ true → pixel_count (at_last (and_then command) phases) ≤ 2 ^ 26
+command_pixels phases command few room = elim (cases_lt 0 (actors_in_last phases)) [
+  | inl some ↦ rw (pixels-command command phases some) (with_room (pixel_count phases) command few room)
+  | inr none ↦ rw (no_actor command phases (omega (arith, none))) few
+]
 
-command_keeps : (script : Script) (most : ℕ) (command : Command) → IsDraft script most → IsWithinLimits command → IsDraft (with_line script (line.Command command)) (most + 1)
-command_keeps script most command is within = record {
+command_names : (phases : List (List (List Command))) (command : Command) → IsDistinct bytes_eq (view_names phases) → has_own_name (view_names phases) command ≡ true
+    → IsDistinct bytes_eq (view_names (at_last (and_then command) phases))
+command_names phases command differ new = elim (cases_lt 0 (actors_in_last phases)) [
+  | inl some ↦ rw (names-command command phases some) (with_own_name (view_names phases) command differ new)
+  | inr none ↦ rw (no_actor command phases (omega (arith, none))) differ
+]
+
+taken_keeps : (script : Script) (most : ℕ) (command : Command) → IsDraft script most → IsWithinLimits command → has_room (pixel_count script.phases) command ≡ true
+    → has_own_name (view_names script.phases) command ≡ true → IsDraft (record script { phases = at_last (and_then command) script.phases }) (most + 1)
+taken_keeps script most command is within room new = record {
   root = is.root;
   range = is.range;
   phases = rw (length-at_last (and_then command) script.phases) is.phases;
@@ -136,6 +158,8 @@ command_keeps script most command is within = record {
       (λ actors last all. All-at_last (All IsWithinLimits) (λ commands. commands ++ command ∷ []) actors all
       (λ commands last all. All-push IsWithinLimits commands command all within));
   count = omega (arith, is.count, sum_by-at_last (sum_by length) (and_then command) 1 script.phases one_of_phase);
+  pixels = command_pixels script.phases command is.pixels room;
+  names = command_names script.phases command is.names new;
 }
   where
     one_of_actor : (commands : List Command) → length (commands ++ command ∷ []) ≤ length commands + 1
@@ -143,6 +167,12 @@ command_keeps script most command is within = record {
 
     one_of_phase : (actors : List (List Command)) → sum_by length (and_then command actors) ≤ sum_by length actors + 1
     one_of_phase actors = sum_by-at_last length (λ commands. commands ++ command ∷ []) 1 actors one_of_actor
+
+command_keeps : (script : Script) (most : ℕ) (command : Command) → IsDraft script most → IsSaid (Some script) (line.Command command) → IsDraft (with_line script (line.Command command)) (most + 1)
+command_keeps script most command is said =
+    let room = in_range-room script.range (pixel_count script.phases) command said.place in
+    let new = in_range-name script.range (view_names script.phases) command said.name in
+    taken_keeps script most (in_range script.range command) is (in_range-within script.range command is.range said.words) room new
 
 range_keeps : (script : Script) (most : ℕ) (range : List ℕ) → IsDraft script most → slice_index range 0 < slice_index range 1 → IsDraft (with_line script (line.Range range)) (most + 1)
 range_keeps script most range is ordered = record {
@@ -152,6 +182,8 @@ range_keeps script most range is ordered = record {
   actors = is.actors;
   commands = is.commands;
   count = omega (arith, is.count);
+  pixels = is.pixels;
+  names = is.names;
 }
 
 with_line_keeps : (script : Script) (most : ℕ) (says : Line) → IsDraft script most → IsSaid (Some script) says → IsDraft (with_line script says) (most + 1)
@@ -160,7 +192,7 @@ with_line_keeps script most (line.Open root) is said = opened_keeps _ _ said.wor
 with_line_keeps script most (line.Range range) is said = range_keeps script most range is said.words
 with_line_keeps script most line.Phase is said = phase_keeps script most is (ltb-true _ _ said.place)
 with_line_keeps script most line.Actor is said = actor_keeps script most is (ltb-true _ _ said.place)
-with_line_keeps script most (line.Command command) is said = command_keeps script most command is said.words
+with_line_keeps script most (line.Command command) is said = command_keeps script most command is said
 
 added_keeps : (so_far : Option Script) (most : ℕ) (says : Line) → IsDraftOf so_far most → IsSaid so_far says → IsDraftOf (added so_far says) (most + 1)
 added_keeps None most (line.Raw root kind dims cell) is said = opened_keeps _ _ said.words
@@ -180,6 +212,8 @@ more_keeps (Some script) most is = record {
   actors = is.actors;
   commands = is.commands;
   count = omega (arith, is.count);
+  pixels = is.pixels;
+  names = is.names;
 }
 
 said_line_keeps : (so_far : Option Script) (most : ℕ) (says : Result Line ScriptKind) → IsDraftOf so_far most → IfOk says (IsSaid so_far)
@@ -223,6 +257,8 @@ script_of_draft script most is few = record {
   actors = is.actors;
   commands = is.commands;
   count = omega (arith, is.count);
+  pixels = is.pixels;
+  names = is.names;
 }
 
 pub limits_of_answer : (bytes : List ℕ) (answered : Result Script ScriptErr) → Answers answered (script_from 1 None (lines_of bytes)) → length bytes ≤ 2 ^ 20 → IfOk answered IsScript

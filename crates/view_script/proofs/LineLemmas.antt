@@ -1,19 +1,21 @@
 -- What holds of each line that is read.
-use Rattle.std.proofs.Common.{◌≡◌, ℕ, ◌<◌, ◌≤◌, ◌^◌, ◌-◌, List, [], ◌∷◌, Bool, true, false, Option, Some, None, Ok, Err, refl, arith, if◌then◌else◌}
+use Rattle.std.proofs.Common.{◌≡◌, ℕ, ◌<◌, ◌^◌, ◌-◌, List, [], ◌∷◌, Bool, true, false, Option, Some, None, Ok, Err, refl, arith, if◌then◌else◌}
 use Rattle.std.specs.Prelude.{IfOk, IsTrue, slice_index}
 use Rattle.std.proofs.lemmas.Grind.{common_steps}
 use Rattle.plain_data.specs.RootName.{is_root_name}
-use Rattle.view_script.specs.declared.command.Command.TheVariants.{Get, Set}
+use Rattle.view_script.specs.declared.command.Command.TheVariants as command
 use Rattle.view_script.specs.declared.line.Keyword.{Keyword}
 use Rattle.view_script.specs.declared.line.Keyword.TheVariants as keyword
 use Rattle.view_script.specs.declared.line.Line.{Line}
 use Rattle.view_script.specs.declared.line.Line.TheVariants as line
 use Rattle.view_script.specs.declared.script_error.ScriptKind.TheVariants.{Limit}
-use Rattle.view_script.specs.Line.{raw, open_root, range, get, set, behind}
+use Rattle.view_script.specs.Line.{raw, open_root, range, get, set, view, fetch, behind}
 use Rattle.view_script.specs.Number.{number_in}
-use Rattle.view_script.specs.Reading.{word_as, root_in, kind_in, number, number_above, at_most, above, three, any}
+use Rattle.view_script.specs.Reading.{word_as, root_in, kind_in, number, number_above, above, three, any}
 use Rattle.view_script.specs.Script.{IsWithinLimits}
-use Rattle.view_script.proofs.ReadingLemmas.{Gives, gives_any, gives_then, gives_word, gives_ended}
+use Rattle.view_script.specs.ViewLine.{name_in, side, level_in, strategy_words, map_words}
+use Rattle.view_script.proofs.ReadingLemmas.{Gives, gives_any, gives_then, gives_word, gives_ended, number_gives}
+use Rattle.view_script.proofs.ViewLineLemmas.{name_gives, side_gives, level_gives, strategy_gives, map_gives}
 
 -- the limits that the words of a line keep
 abbrev pub IsLine : Line → Type 0
@@ -34,18 +36,8 @@ root_gives = gives_word root_in _ each
         go true named = named
         go false other = tt
 
-at_most_gives : (most n : ℕ) → IfOk (at_most most (Some n)) (λ n. n ≤ most)
-at_most_gives most n = grind (arith, common_steps)
-
 above_gives : (low n : ℕ) → IfOk (above low (Some n)) (λ n. low < n)
 above_gives low n = grind (arith, common_steps)
-
-number_gives : (most : ℕ) → Gives (number most) (λ n. n ≤ most)
-number_gives most = gives_word (λ word. at_most most (number_in word)) _ (λ word. each (number_in word))
-  where
-    each : (n : Option ℕ) → IfOk (at_most most n) (λ n. n ≤ most)
-    each None = tt
-    each (Some n) = at_most_gives most n
 
 number_above_gives : (low : ℕ) → Gives (number_above low) (λ n. low < n)
 number_above_gives low = gives_word (λ word. above low (number_in word)) _ (λ word. each (number_in word))
@@ -76,14 +68,29 @@ get_gives : Gives get IsLine
 unfolding get
 get_gives = gives_then (number 7) _ _ _ (number_gives 7) (λ level within.
     gives_then (three any) _ _ _ (gives_any (three any)) (λ pos _.
-    gives_ended (line.Command (Get level pos)) _ within))
+    gives_ended (line.Command (command.Get level pos)) _ within))
 
 set_gives : Gives set IsLine
 unfolding set
 set_gives = gives_then (number 7) _ _ _ (number_gives 7) (λ level within.
     gives_then (three any) _ _ _ (gives_any (three any)) (λ pos _.
     gives_then (number any) _ _ _ (gives_any (number any)) (λ value _.
-    gives_ended (line.Command (Set level pos value)) _ within)))
+    gives_ended (line.Command (command.Set level pos value)) _ within)))
+
+view_gives : Gives view IsLine
+unfolding view
+view_gives = gives_then (word_as name_in) _ _ _ name_gives (λ name named.
+    gives_then side _ _ _ side_gives (λ width wide.
+    gives_then side _ _ _ side_gives (λ height high.
+    gives_then (word_as level_in) _ _ _ level_gives (λ level within.
+    gives_then strategy_words _ _ _ strategy_gives (λ strategy budget.
+    gives_then map_words _ _ _ map_gives (λ map is_map.
+    gives_ended (line.Command (command.View name (record { affine = map; width = width; height = height; level = level; strategy = strategy; low = 0; high = 255 }))) _
+    (named, record { map = is_map; width = wide; height = high; level = within; budget = budget; range = omega arith })))))))
+
+fetch_gives : Gives fetch IsLine
+unfolding fetch
+fetch_gives = gives_then (number (2 ^ 18)) _ _ _ (number_gives (2 ^ 18)) (λ count within. gives_ended (line.Command (command.Fetch count)) _ within)
 
 pub line_gives : (first : Keyword) → Gives (behind first) IsLine
 line_gives keyword.Raw = raw_gives
@@ -93,3 +100,5 @@ line_gives keyword.Phase = gives_ended _ _ tt
 line_gives keyword.Actor = gives_ended _ _ tt
 line_gives keyword.Get = get_gives
 line_gives keyword.Set = set_gives
+line_gives keyword.View = view_gives
+line_gives keyword.Fetch = fetch_gives

@@ -1,8 +1,10 @@
 -- What holds of all that a reading gives.
-use Rattle.std.proofs.Common.{List, ℕ, Result, Ok, Err, [], ◌∷◌}
+use Rattle.std.proofs.Common.{◌≤◌, List, ℕ, Option, Some, None, Result, Ok, Err, [], ◌∷◌, arith}
 use Rattle.std.specs.Prelude.{IfOk}
+use Rattle.std.proofs.lemmas.Grind.{common_steps}
 use Rattle.view_script.specs.declared.script_error.ScriptKind.{ScriptKind}
-use Rattle.view_script.specs.Reading.{Reading, ◌>>=◌, followed, word_as, with_rest, ended}
+use Rattle.view_script.specs.Number.{number_in}
+use Rattle.view_script.specs.Reading.{Reading, ◌>>=◌, followed, give, word_as, with_rest, ended, at_most, number}
 
 -- P holds of each value that a reading gives
 pub record Gives {A : Type 0} (reading : Reading A) (P : A → Type 0) : Type 0 where
@@ -41,3 +43,16 @@ gives_ended x P holds = record { holds = over }
     over : (words : List (List ℕ)) → IfOk (ended x words) (λ read. P read.0)
     over [] = holds
     over (word ∷ words) = tt
+
+pub gives_value : {A : Type 0} (x : A) (P : A → Type 0) → P x → Gives (give x) P
+gives_value x P holds = record { holds = λ words. holds }
+
+at_most_gives : (most n : ℕ) → IfOk (at_most most (Some n)) (λ n. n ≤ most)
+at_most_gives most n = grind (arith, common_steps)
+
+pub number_gives : (most : ℕ) → Gives (number most) (λ n. n ≤ most)
+number_gives most = gives_word (λ word. at_most most (number_in word)) _ (λ word. each (number_in word))
+  where
+    each : (n : Option ℕ) → IfOk (at_most most n) (λ n. n ≤ most)
+    each None = tt
+    each (Some n) = at_most_gives most n

@@ -12,4 +12,6 @@ keyword_in word =
     if bytes_eq word (codes "phase") then Some keyword.Phase else
     if bytes_eq word (codes "actor") then Some keyword.Actor else
     if bytes_eq word (codes "get") then Some keyword.Get else
-    if bytes_eq word (codes "set") then Some keyword.Set else None
+    if bytes_eq word (codes "set") then Some keyword.Set else
+    if bytes_eq word (codes "view") then Some keyword.View else
+    if bytes_eq word (codes "fetch") then Some keyword.Fetch else None

@@ -2,7 +2,10 @@ pub mod Keyword
 pub mod Line
 pub mod Lines
 pub mod Meaning
+pub mod Name
 pub mod Number
 pub mod Reading
 pub mod Script
+pub mod ViewLine
+pub mod Views
 pub mod Words

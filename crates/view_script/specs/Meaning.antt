@@ -1,8 +1,11 @@
 -- What a script says, line by line, or the first rule that a line breaks.
-use Rattle.std.specs.Prelude.{◌≡◌, ℕ, ◌+◌, ◌-◌, ◌^◌, ◌==◌, ◌&&◌, List, [], ◌∷◌, ◌++◌, length, Bool, true, false, not, Option, Some, None, is_none, Result, Ok, Err, nat_lt, if◌then◌else◌, slice_get}
+use Rattle.std.specs.Prelude.{◌≡◌, ℕ, ◌+◌, ◌-◌, ◌*◌, ◌^◌, ◌==◌, ◌&&◌, List, [], ◌∷◌, ◌++◌, length, Bool, true, false, not, Option, Some, None, is_none, Result, Ok, Err, nat_lt, nat_le, slice_index, if◌then◌else◌, slice_get}
 use Rattle.std.specs.Option.{ok_or, option_map_or}
-use Rattle.std.specs.Str.{is_utf8}
+use Rattle.std.specs.List.{list_any}
+use Rattle.std.specs.Str.{bytes_eq, is_utf8}
+use Rattle.scale_pick.specs.declared.view.View.{View}
 use Rattle.view_script.specs.declared.command.Command.{Command}
+use Rattle.view_script.specs.declared.command.Command.TheVariants as command
 use Rattle.view_script.specs.declared.line.Keyword.{Keyword}
 use Rattle.view_script.specs.declared.line.Keyword.TheVariants as keyword
 use Rattle.view_script.specs.declared.line.Line.{Line}
@@ -19,6 +22,7 @@ use Rattle.view_script.specs.declared.script_error.ScriptKind.TheVariants.{NotTe
 use Rattle.view_script.specs.Keyword.{keyword_in}
 use Rattle.view_script.specs.Line.{behind}
 use Rattle.view_script.specs.Lines.{lines_of}
+use Rattle.view_script.specs.Script.{pixel_count, view_names}
 use Rattle.view_script.specs.Words.{words_of}
 
 abbrev pub has_none : {X : Type 0} → List X → Bool
@@ -41,11 +45,29 @@ may_stand (Some script) keyword.Phase = true
 may_stand (Some script) keyword.Actor = not (has_none script.phases)
 may_stand (Some script) other = nat_lt 0 (actors_in_last script.phases)
 
--- how many phases a script may have, and how many actors a phase
+-- a view has room among the pixels that other views have
+abbrev pub has_room : ℕ → Command → Bool
+has_room pixels (command.View name view) = nat_le (pixels + view.width * view.height) (2 ^ 26)
+has_room pixels other = true
+
+-- how many phases a script may have, how many actors a phase, and how many pixels all views
 abbrev pub is_within_limits : Option Script → Line → Bool
 is_within_limits (Some script) line.Phase = nat_lt (length script.phases) 1024
 is_within_limits (Some script) line.Actor = nat_lt (actors_in_last script.phases) 16
+is_within_limits (Some script) (line.Command command) = has_room (pixel_count script.phases) command
 is_within_limits so_far other = true
+
+-- a view has a name that no other view has
+abbrev pub is_named : List (List ℕ) → List ℕ → Bool
+is_named names name = list_any (bytes_eq name) names
+
+abbrev pub has_own_name : List (List ℕ) → Command → Bool
+has_own_name names (command.View name view) = not (is_named names name)
+has_own_name names other = true
+
+abbrev pub is_new : Option Script → Line → Bool
+is_new (Some script) (line.Command command) = has_own_name (view_names script.phases) command
+is_new so_far other = true
 
 infixl 10 ◌>>=◌
 abbrev pub ◌>>=◌ : {A B : Type 0} → Result A ScriptKind → (A → Result B ScriptKind) → Result B ScriptKind
@@ -64,6 +86,7 @@ said so_far bytes first words = do
   place ← demand (may_stand so_far keyword) Order
   read ← behind keyword words
   limits ← demand (is_within_limits so_far read.0) Limit
+  name ← demand (is_new so_far read.0) Order
   Ok read.0
 
 -- the last element is changed
@@ -76,13 +99,22 @@ at_last change (x ∷ y ∷ xs) = x ∷ at_last change (y ∷ xs)
 abbrev pub opened : Head → Script
 opened head = record { head = head; range = None; phases = [] }
 
+-- a view shows the script's range, where there is one
+abbrev pub shown_in : Option (List ℕ) → View → View
+shown_in None view = view
+shown_in (Some range) view = record view { low = slice_index range 0; high = slice_index range 1 }
+
+abbrev pub in_range : Option (List ℕ) → Command → Command
+in_range range (command.View name view) = command.View name (shown_in range view)
+in_range range other = other
+
 abbrev pub with_line : Script → Line → Script
 with_line script (line.Raw root kind dims cell) = opened (head.Raw root kind dims cell)
 with_line script (line.Open root) = opened (head.Pyramid root)
 with_line script (line.Range range) = record script { range = Some range }
 with_line script line.Phase = record script { phases = script.phases ++ [] ∷ [] }
 with_line script line.Actor = record script { phases = at_last (λ actors. actors ++ [] ∷ []) script.phases }
-with_line script (line.Command command) = record script { phases = at_last (at_last (λ commands. commands ++ command ∷ [])) script.phases }
+with_line script (line.Command command) = record script { phases = at_last (at_last (λ commands. commands ++ in_range script.range command ∷ [])) script.phases }
 
 abbrev pub added : Option Script → Line → Option Script
 added None (line.Raw root kind dims cell) = Some (opened (head.Raw root kind dims cell))

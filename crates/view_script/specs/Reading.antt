@@ -1,5 +1,5 @@
 -- Words read from left to right: what stands at the front of a list of words, or the first rule that they break.
-use Rattle.std.specs.Prelude.{◌≡◌, ℕ, ◌-◌, ◌^◌, List, [], ◌∷◌, Option, Some, None, Result, Ok, Err, nat_lt, nat_le, if◌then◌else◌, codes}
+use Rattle.std.specs.Prelude.{◌≡◌, ℕ, ◌-◌, ◌^◌, ◌&&◌, List, [], ◌∷◌, Option, Some, None, Result, Ok, Err, nat_lt, nat_le, if◌then◌else◌, codes}
 use Rattle.std.specs.Borrow.{Bor}
 use Rattle.std.specs.Str.{bytes_eq}
 use Rattle.cell_grid.specs.declared.kind.Kind.{Kind}
@@ -49,6 +49,10 @@ abbrev pub above : ℕ → Option ℕ → Result ℕ ScriptKind
 above low None = Err BadNumber
 above low (Some n) = if nat_lt low n then Ok n else Err Limit
 
+abbrev pub between : ℕ → ℕ → Option ℕ → Result ℕ ScriptKind
+between least most None = Err BadNumber
+between least most (Some n) = if nat_le least n && nat_le n most then Ok n else Err Limit
+
 abbrev pub root_in : List ℕ → Result (List ℕ) ScriptKind
 root_in word = if is_root_name word then Ok word else Err Limit
 
@@ -64,6 +68,9 @@ number most = word_as (λ word. at_most most (number_in word))
 
 abbrev pub number_above : ℕ → Reading ℕ
 number_above low = word_as (λ word. above low (number_in word))
+
+abbrev pub number_between : ℕ → ℕ → Reading ℕ
+number_between least most = word_as (λ word. between least most (number_in word))
 
 -- numbers along x, y and z
 unfoldable pub three : ℕ → Reading (List ℕ)

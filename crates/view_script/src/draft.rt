@@ -1,15 +1,19 @@
 // The script that the lines so far say.
-ghost use Rattle.std.specs.Prelude.{◌≡◌, ◌++◌, [], ◌∷◌, OnOk};
+ghost use Rattle.std.specs.Prelude.{◌≡◌, ◌++◌, [], ◌∷◌, true, IfOk, OnOk};
 ghost use Rattle.std.specs.Str.{is_utf8};
-ghost use Rattle.view_script.specs.Meaning.{actors_in_last, may_stand, is_within_limits, said, added, at_last, opened};
+ghost use Rattle.view_script.specs.Meaning.{actors_in_last, may_stand, has_room, is_within_limits, is_new, said, added, at_last, in_range, shown_in, opened, with_line};
+ghost use Rattle.view_script.specs.Script.{pixel_count};
+ghost use Rattle.view_script.specs.Views.{KeepsViews, phases_of};
 
 use crate::command::Command;
 use crate::line::{Keyword, Line};
 use crate::reading::line_behind;
 use crate::script::{Head, Script};
 use crate::script_error::ScriptKind;
+use crate::views::Views;
 use crate::words::Words;
 use plain_data::{Items, Text};
+use scale_pick::View;
 use std::alloc::{AllocError, Global};
 use std::str;
 
@@ -21,11 +25,14 @@ const MAX_ACTORS: usize = 16;
 #[tactic(auto, unfolding(crate::specs::Meaning::said))]
 pub fn read_line<'a>(
     so_far: &Option<Script>,
+    views: &Views,
     line: &[u8],
     first: &[u8],
     words: &mut Words<'a>,
 ) -> Result<Line<'a>, ScriptKind>
-    ensures { result ≡ said so_far.now line.now first.now words.old }
+    requires kept { KeepsViews views.now (phases_of so_far.now) }
+    ensures said { result ≡ said so_far.now line.now first.now words.old }
+    ensures within { IfOk result (λ line. is_within_limits so_far.now line ≡ true) }
 {
     if !is_text(line) {
         return Err(ScriptKind::NotText);
@@ -35,8 +42,11 @@ pub fn read_line<'a>(
         return Err(ScriptKind::Order);
     }
     let line = line_behind(keyword, words)?;
-    if !is_within(so_far, &line) {
+    if !is_within(so_far, views, &line) {
         return Err(ScriptKind::Limit);
+    }
+    if !is_new_name(so_far, views, &line) {
+        return Err(ScriptKind::Order);
     }
     Ok(line)
 }
@@ -62,16 +72,31 @@ fn stands_right(so_far: &Option<Script>, keyword: Keyword) -> bool
         Keyword::Range => script.range.is_none() && script.phases.is_empty(),
         Keyword::Phase => true,
         Keyword::Actor => !script.phases.is_empty(),
-        Keyword::Get | Keyword::Set => actors_of_last(&script.phases) > 0,
+        Keyword::Get | Keyword::Set | Keyword::View | Keyword::Fetch => {
+            actors_of_last(&script.phases) > 0
+        }
     }
 }
 
-fn is_within(so_far: &Option<Script>, line: &Line) -> bool
+fn is_within(so_far: &Option<Script>, views: &Views, line: &Line) -> bool
+    requires { KeepsViews views.now (phases_of so_far.now) }
     ensures { result ≡ is_within_limits so_far.now line.now }
 {
     match (so_far, line) {
         (Some(script), Line::Phase) => script.phases.len() < MAX_PHASES,
         (Some(script), Line::Actor) => actors_of_last(&script.phases) < MAX_ACTORS,
+        (Some(_), Line::Command(command)) => views.has_room(command),
+        _ => true,
+    }
+}
+
+/// Whether no earlier view has the line's name.
+fn is_new_name(so_far: &Option<Script>, views: &Views, line: &Line) -> bool
+    requires { KeepsViews views.now (phases_of so_far.now) }
+    ensures { result ≡ is_new so_far.now line.now }
+{
+    match (so_far, line) {
+        (Some(_), Line::Command(Command::View { name, .. })) => !views.has_name(name),
         _ => true,
     }
 }
@@ -85,9 +110,17 @@ fn actors_of_last(phases: &Items<Items<Items<Command>>>) -> usize
     }
 }
 
-/// Adds what a line says.
-pub fn add(alloc: Global, so_far: &mut Option<Script>, line: Line) -> Result<(), AllocError>
-    ensures { OnOk result (so_far.new ≡ added so_far.old line.entry) }
+/// Adds what a line says, within the limits of scripts.
+pub fn add(
+    alloc: Global,
+    so_far: &mut Option<Script>,
+    views: &mut Views,
+    line: Line,
+) -> Result<(), AllocError>
+    requires kept { KeepsViews views.old (phases_of so_far.old) }
+    requires within { is_within_limits so_far.old line ≡ true }
+    ensures added { OnOk result (so_far.new ≡ added so_far.old line.entry) }
+    ensures kept { OnOk result (KeepsViews views.new (phases_of so_far.new)) }
 {
     match line {
         Line::Raw {
@@ -97,18 +130,18 @@ pub fn add(alloc: Global, so_far: &mut Option<Script>, line: Line) -> Result<(),
             cell,
         } => {
             let root = Text::from_str(alloc, root.name())?;
-            *so_far = Some(open(
-                alloc,
-                Head::Raw {
-                    root,
-                    kind,
-                    dims,
-                    cell,
-                },
-            ));
+            let head = Head::Raw {
+                root,
+                kind,
+                dims,
+                cell,
+            };
+            *views = Views::new(alloc);
+            *so_far = Some(open(alloc, head));
         }
         Line::Open { root } => {
             let root = Text::from_str(alloc, root.name())?;
+            *views = Views::new(alloc);
             *so_far = Some(open(alloc, Head::Pyramid { root }));
         }
         Line::Range(range) => {
@@ -128,10 +161,67 @@ pub fn add(alloc: Global, so_far: &mut Option<Script>, line: Line) -> Result<(),
         }
         Line::Command(command) => {
             if let Some(script) = so_far {
-                add_command(&mut script.phases, command)?;
+                say(script, views, command)?;
             }
         }
     }
+    Ok(())
+}
+
+/// Adds a command, which shows the script's range.
+fn say(script: &mut Script, views: &mut Views, command: Command) -> Result<(), AllocError>
+    requires kept { KeepsViews views.old script.old.phases }
+    requires room { has_room (pixel_count script.old.phases) command ≡ true }
+    ensures said { OnOk result (script.new ≡ with_line script.old (Line.Command command)) }
+    ensures kept { OnOk result (KeepsViews views.new script.new.phases) }
+{
+    let command = in_range(script.range, command);
+    keep(views, &script.phases, &command)?;
+    add_command(&mut script.phases, command)
+}
+
+/// A view shows the script's range, where there is one.
+fn in_range(range: Option<[u64; 2]>, command: Command) -> Command
+    ensures { result ≡ in_range range command }
+{
+    match command {
+        Command::View { name, view } => Command::View {
+            name,
+            view: shown_in(range, &view),
+        },
+        other => other,
+    }
+}
+
+fn shown_in(range: Option<[u64; 2]>, view: &View) -> View
+    ensures { result ≡ shown_in range view.now }
+{
+    let [low, high] = range.unwrap_or([view.low, view.high]);
+    View {
+        affine: view.affine,
+        width: view.width,
+        height: view.height,
+        level: view.level,
+        strategy: view.strategy,
+        low,
+        high,
+    }
+}
+
+/// Keeps what the views are with a command more.
+fn keep(
+    views: &mut Views,
+    phases: &Items<Items<Items<Command>>>,
+    command: &Command,
+) -> Result<(), AllocError>
+    requires kept { KeepsViews views.old phases.now }
+    requires room { has_room (pixel_count phases.now) command.now ≡ true }
+    ensures { OnOk result (KeepsViews views.new (at_last (at_last (λ commands. commands ++ command.now ∷ [])) phases.now)) }
+{
+    if actors_of_last(phases) == 0 {
+        return Ok(());
+    }
+    views.keep(command)?;
     Ok(())
 }
 

@@ -13,6 +13,8 @@ pub enum Keyword {
     Actor,
     Get,
     Set,
+    View,
+    Fetch,
 }
 
 /// What a line says. Its root is borrowed from the line.

@@ -1,13 +1,15 @@
 // A script, read line by line.
-ghost use Rattle.std.specs.Prelude.{◌≡◌, ◌^◌, ◌≤◌, IfOk, None, length};
+ghost use Rattle.std.specs.Prelude.{◌≡◌, ◌^◌, ◌≤◌, IfOk, OnOk, None, length};
 ghost use Rattle.view_script.specs.Meaning.{Answers, TakesLine, is_remark, script_from, script_in};
 ghost use Rattle.view_script.specs.Lines.{lines_of};
 ghost use Rattle.view_script.specs.Script.{IsScript};
+ghost use Rattle.view_script.specs.Views.{KeepsViews, phases_of};
 
 use crate::draft::{add, read_line};
 use crate::lines::Lines;
 use crate::script::Script;
 use crate::script_error::{ScriptErr, ScriptKind};
+use crate::views::Views;
 use crate::words::Words;
 use std::alloc::{AllocError, Global};
 
@@ -61,9 +63,10 @@ fn read_lines(alloc: Global, bytes: &[u8]) -> Result<Script, ScriptErr>
     ensures { Answers result (script_from 1 None (lines_of bytes.now)) }
 {
     let mut so_far = None;
+    let mut views = Views::new(alloc);
     let mut number = 1;
     for line in Lines::new(bytes) {
-        match take_line(alloc, &mut so_far, line) {
+        match take_line(alloc, &mut so_far, &mut views, line) {
             Ok(()) => number += 1,
             Err(LineErr::Rule(kind)) => return Err(ScriptErr::At { line: number, kind }),
             Err(LineErr::Memory) => return Err(ScriptErr::Memory),
@@ -80,8 +83,15 @@ fn read_lines(alloc: Global, bytes: &[u8]) -> Result<Script, ScriptErr>
 
 /// Takes the next line of a script.
 #[tactic(auto, unfolding(crate::specs::Meaning::after_line))]
-fn take_line(alloc: Global, so_far: &mut Option<Script>, line: &[u8]) -> Result<(), LineErr>
-    ensures { TakesLine so_far.old line.now so_far.new result }
+fn take_line(
+    alloc: Global,
+    so_far: &mut Option<Script>,
+    views: &mut Views,
+    line: &[u8],
+) -> Result<(), LineErr>
+    requires kept { KeepsViews views.old (phases_of so_far.old) }
+    ensures taken { TakesLine so_far.old line.now so_far.new result }
+    ensures kept { OnOk result (KeepsViews views.new (phases_of so_far.new)) }
 {
     let mut words = Words::new(line);
     let Some(first) = words.next() else {
@@ -90,8 +100,8 @@ fn take_line(alloc: Global, so_far: &mut Option<Script>, line: &[u8]) -> Result<
     if begins_remark(first) {
         return Ok(());
     }
-    let said = read_line(so_far, line, first, &mut words)?;
-    add(alloc, so_far, said)?;
+    let said = read_line(so_far, views, line, first, &mut words)?;
+    add(alloc, so_far, views, said)?;
     Ok(())
 }
 
@@ -103,3 +113,5 @@ fn begins_remark(first: &[u8]) -> bool
 
 #[cfg(test)]
 mod tests;
+#[cfg(test)]
+mod view_tests;

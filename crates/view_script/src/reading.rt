@@ -1,19 +1,27 @@
 // The words of a line, read from left to right. An error is the first rule that they break.
 ghost use Rattle.std.specs.Prelude.{◌≡◌, ◌-◌, ◌^◌, ◌<◌, ◌≤◌, IfOk};
 ghost use Rattle.view_script.specs.Keyword.{keyword_in};
-ghost use Rattle.view_script.specs.Line.{raw, open_root, range, get, set, behind};
-ghost use Rattle.view_script.specs.Reading.{Reads, EndsWith, TakesWord, word_as, root_in, kind_in, number, number_above, three, any};
+ghost use Rattle.view_script.specs.Line.{raw, open_root, range, get, set, view, fetch, behind};
+ghost use Rattle.view_script.specs.Reading.{Reads, EndsWith, TakesWord, word_as, root_in, kind_in, number, number_above, number_between, three, any};
 
 use crate::command::Command;
 use crate::line::{Keyword, Line};
 use crate::number::number_of;
 use crate::root::Root;
 use crate::script_error::ScriptKind;
+use crate::view_line::{next_level_of_view, next_map, next_name, next_side, next_strategy};
 use crate::words::Words;
 use cell_grid::Kind;
+use scale_pick::View;
 
 /// The greatest number of a level.
-const MAX_LEVEL: u64 = 7;
+pub const MAX_LEVEL: u64 = 7;
+
+/// The greatest number of requests that a line serves.
+const MAX_FETCH: u64 = 1 << 18;
+
+/// The greatest value that a view shows where the script gives no range.
+const GREATEST_SHOWN: u64 = 255;
 
 impl Keyword {
     /// The first word that a word is, where it is one.
@@ -28,6 +36,8 @@ impl Keyword {
             b"actor" => Some(Keyword::Actor),
             b"get" => Some(Keyword::Get),
             b"set" => Some(Keyword::Set),
+            b"view" => Some(Keyword::View),
+            b"fetch" => Some(Keyword::Fetch),
             _ => None,
         }
     }
@@ -45,6 +55,8 @@ pub fn line_behind<'a>(keyword: Keyword, words: &mut Words<'a>) -> Result<Line<'
         Keyword::Actor => end(words).map(|()| Line::Actor),
         Keyword::Get => get_line(words),
         Keyword::Set => set_line(words),
+        Keyword::View => view_line(words),
+        Keyword::Fetch => fetch_line(words),
     }
 }
 
@@ -105,7 +117,41 @@ fn set_line<'a>(words: &mut Words<'a>) -> Result<Line<'a>, ScriptKind>
     Ok(Line::Command(Command::Set { level, pos, value }))
 }
 
-fn next_word<'a>(words: &mut Words<'a>) -> Result<&'a [u8], ScriptKind>
+#[tactic(auto, unfolding(crate::specs::Line::view))]
+fn view_line<'a>(words: &mut Words<'a>) -> Result<Line<'a>, ScriptKind>
+    ensures { Reads view words.old words.new result }
+{
+    let name = next_name(words)?;
+    let width = next_side(words)?;
+    let height = next_side(words)?;
+    let level = next_level_of_view(words)?;
+    let strategy = next_strategy(words)?;
+    let affine = next_map(words)?;
+    end(words)?;
+    let view = View {
+        affine,
+        width,
+        height,
+        level,
+        strategy,
+        low: 0,
+        high: GREATEST_SHOWN,
+    };
+    Ok(Line::Command(Command::View { name, view }))
+}
+
+#[tactic(auto, unfolding(crate::specs::Line::fetch))]
+fn fetch_line<'a>(words: &mut Words<'a>) -> Result<Line<'a>, ScriptKind>
+    ensures { Reads fetch words.old words.new result }
+{
+    let count = next_number(words, MAX_FETCH)?;
+    end(words)?;
+    Ok(Line::Command(Command::Fetch {
+        count: count as u32,
+    }))
+}
+
+pub fn next_word<'a>(words: &mut Words<'a>) -> Result<&'a [u8], ScriptKind>
     ensures { TakesWord words.old words.new result }
 {
     words.next().ok_or(ScriptKind::MissingWord)
@@ -130,13 +176,26 @@ fn next_kind(words: &mut Words) -> Result<Kind, ScriptKind>
     }
 }
 
-fn next_number(words: &mut Words, most: u64) -> Result<u64, ScriptKind>
+pub fn next_number(words: &mut Words, most: u64) -> Result<u64, ScriptKind>
     ensures reads { Reads (number most) words.old words.new result }
     ensures within { IfOk result (λ n. n ≤ most) }
 {
     let word = next_word(words)?;
     let number = number_of(word).ok_or(ScriptKind::BadNumber)?;
     if number > most {
+        return Err(ScriptKind::Limit);
+    }
+    Ok(number)
+}
+
+pub fn next_number_between(words: &mut Words, least: u64, most: u64) -> Result<u64, ScriptKind>
+    ensures reads { Reads (number_between least most) words.old words.new result }
+    ensures least { IfOk result (λ n. least ≤ n) }
+    ensures most { IfOk result (λ n. n ≤ most) }
+{
+    let word = next_word(words)?;
+    let number = number_of(word).ok_or(ScriptKind::BadNumber)?;
+    if number < least || number > most {
         return Err(ScriptKind::Limit);
     }
     Ok(number)

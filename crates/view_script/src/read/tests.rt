@@ -5,7 +5,7 @@ use cell_grid::Kind;
 use std::test::Fail;
 
 /// The first broken rule of a text and the line that breaks it, where it is no script.
-fn refused(alloc: Global, text: &[u8]) -> Option<(u32, ScriptKind)> {
+pub fn refused(alloc: Global, text: &[u8]) -> Option<(u32, ScriptKind)> {
     match read_script(alloc, text) {
         Err(ScriptErr::At { line, kind }) => Some((line, kind)),
         _ => None,
@@ -53,11 +53,6 @@ fn rules_of_one_line(rt: HostRuntime) {
     for (line, kind) in [
         ("get 0 1 2", ScriptKind::MissingWord),
         ("pause", ScriptKind::UnknownWord),
-        (
-            "view a 4 4 0 blocking 1 1 0 0 0 1 0 0 0 0",
-            ScriptKind::UnknownWord,
-        ),
-        ("fetch 1", ScriptKind::UnknownWord),
         ("get 8 1 2 3", ScriptKind::Limit),
         ("set 0 1 2 3", ScriptKind::MissingWord),
         ("set 0 1 2 3 4 5", ScriptKind::ExtraWord),
@@ -71,7 +66,7 @@ fn rules_of_one_line(rt: HostRuntime) {
 }
 
 /// What a text with one more line is refused for.
-fn refused_after(alloc: Global, head: &[u8], line: &str) -> Option<(u32, ScriptKind)> {
+pub fn refused_after(alloc: Global, head: &[u8], line: &str) -> Option<(u32, ScriptKind)> {
     let mut text = Vec::from_slice(alloc, head).ok()?;
     text.extend_from_slice(line.as_bytes()).ok()?;
     refused(alloc, text.as_slice())
@@ -169,20 +164,24 @@ fn reads_what_the_lines_say(rt: HostRuntime) -> Result<(), Fail> {
     assert_eq!(rt; first.len(), 2);
     let commands = first.as_slice().first().expect(&rt, "an actor");
     assert_eq!(rt; commands.len(), 2);
-    assert_eq!(rt;
-        commands.as_slice().first(),
-        Some(&Command::Get {
-            level: 0,
-            pos: [1, 2, 3]
-        })
+    assert!(rt;
+        matches!(
+            commands.as_slice().first(),
+            Some(Command::Get {
+                level: 0,
+                pos: [1, 2, 3]
+            })
+        )
     );
-    assert_eq!(rt;
-        commands.as_slice().last(),
-        Some(&Command::Set {
-            level: 7,
-            pos: [7, 2, 3],
-            value: 9
-        })
+    assert!(rt;
+        matches!(
+            commands.as_slice().last(),
+            Some(Command::Set {
+                level: 7,
+                pos: [7, 2, 3],
+                value: 9
+            })
+        )
     );
     let last = script.phases.last().expect(&rt, "a phase");
     assert_eq!(rt; last.len(), 0);
