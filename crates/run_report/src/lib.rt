@@ -8,12 +8,14 @@ mod info;
 mod print;
 mod reply;
 mod report;
+mod shot;
 mod stop;
 
 pub use info::info_text;
 pub use print::{PrintErr, print_bytes};
 pub use reply::{Answer, Refusal, Reply};
 pub use report::{Report, Unwritten};
+pub use shot::Shot;
 pub use stop::Stop;
 
 #[cfg(test)]

@@ -1,9 +1,10 @@
 // What a command answers, and how it is written.
 ghost use Rattle.std.specs.Prelude.{◌≡◌, Some};
-ghost use Rattle.run_report.specs.Reply.{answer_text, refusal_text, refuses, reply_text};
+ghost use Rattle.run_report.specs.Reply.{answer_text, frame_text, refusal_text, refuses, reply_text};
 
 use crate::cause::Cause;
 use cell_file::AcquireErr;
+use scale_pick::Painted;
 use std::fmt;
 
 /// Why a command was not done.
@@ -22,6 +23,14 @@ pub enum Refusal {
 pub enum Answer {
     Value(u64),
     Done,
+    /// What became of a frame.
+    Frame(Painted),
+    /// How many requests were served by a load, by a cell that was there, and how many were refused.
+    Fetched {
+        loaded: u32,
+        held: u32,
+        refused: u32,
+    },
     Refused(Refusal),
 }
 
@@ -58,6 +67,27 @@ impl fmt::Display for Refusal {
     }
 }
 
+/// What became of a frame, to be written.
+#[derive(Clone, Copy)]
+struct Frame(Painted);
+
+impl fmt::Display for Frame {
+    ghost output = { λ frame. Some (frame_text frame.0) };
+
+    fn fmt<W: fmt::Write>(&self, f: &mut fmt::Formatter<W>) -> fmt::Result {
+        let Painted {
+            wanted,
+            complete,
+            not_ready,
+        } = self.0;
+        if complete {
+            write!(f, "frame level {wanted} complete")
+        } else {
+            write!(f, "frame level {wanted} partial {not_ready}")
+        }
+    }
+}
+
 impl fmt::Display for Answer {
     ghost output = { λ answer. Some (answer_text answer) };
 
@@ -65,6 +95,15 @@ impl fmt::Display for Answer {
         match *self {
             Answer::Value(value) => write!(f, "value {value}"),
             Answer::Done => write!(f, "done"),
+            Answer::Frame(painted) => {
+                let frame = Frame(painted);
+                write!(f, "{frame}")
+            }
+            Answer::Fetched {
+                loaded,
+                held,
+                refused,
+            } => write!(f, "fetched {loaded} held {held} refused {refused}"),
             Answer::Refused(refusal) => write!(f, "refused {refusal}"),
         }
     }

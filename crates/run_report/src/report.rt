@@ -5,16 +5,19 @@ ghost use Rattle.run_report.specs.Report.{has_put, has_refusal, has_unsaved, has
 
 use crate::counts::{Counts, Lost, put_name};
 use crate::reply::Reply;
+use crate::shot::Shot;
 use arr_history::{Tally, Unsaved};
 use arrayvec::ArrayString;
 use plain_data::Items;
 use std::alloc::{AllocError, Global};
 use std::fmt::{self, Write};
 
-/// What a run answered, in order of phase, actor and call, what it counted, and the cells that it could not save.
+/// What a run answered and the pictures that it painted, both in order of phase, actor and call, what it counted, and the cells
+/// that it could not save.
 #[derive(Drop)]
 pub struct Report {
     pub replies: Items<Reply>,
+    pub shots: Items<Shot>,
     pub tally: Tally,
     pub unsaved: Items<Unsaved>,
 }
@@ -39,8 +42,14 @@ impl fmt::Display for Unwritten {
 
 impl Report {
     /// A report, whose unsaved cells ascend. It takes no memory.
-    pub fn new(replies: Items<Reply>, tally: Tally, mut unsaved: Vec<Unsaved>) -> Report
+    pub fn new(
+        replies: Items<Reply>,
+        shots: Items<Shot>,
+        tally: Tally,
+        mut unsaved: Vec<Unsaved>,
+    ) -> Report
         ensures replies { result.replies ≡ replies }
+        ensures shots { result.shots ≡ shots }
         ensures tally { result.tally ≡ tally }
         ensures unsaved { IsPermutation unsaved.items result.unsaved }
         ensures ascending { IsNonDecreasingBy (λ u. u.cell) result.unsaved }
@@ -48,6 +57,7 @@ impl Report {
         unsaved.sort_unstable_by_key(|cell| cell.cell);
         Report {
             replies,
+            shots,
             tally,
             unsaved: Items::from_vec(unsaved),
         }

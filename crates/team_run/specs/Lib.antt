@@ -1,3 +1,10 @@
+pub mod Desk
+pub mod Range
+pub mod Task
+pub mod Stage
+pub mod Trace
+pub mod Views
+pub mod Fetches
 pub mod Serve
 pub mod Plain
 pub mod Run

@@ -1,6 +1,5 @@
--- The replies of plain arrays: read and written in the order of the commands, with no cache.
-use Rattle.std.specs.Prelude.{◌≡◌, ℕ, ◌<◌, Bool, IsTrue, List, [], ◌∷◌}
-use Rattle.arr_history.specs.declared.event.Event.{Event}
+-- The replies and the pictures of plain arrays: read and written in the order of the commands, with no cache.
+use Rattle.std.specs.Prelude.{◌≡◌, ◌⊎◌, ℕ, ◌<◌, Bool, IsTrue, List, [], ◌∷◌, ◌++◌, slice_index}
 use Rattle.arr_history.specs.Shape.{Shape}
 use Rattle.arr_history.specs.State.{with_at}
 use Rattle.cell_grid.specs.declared.level.Level.{Level}
@@ -8,33 +7,55 @@ use Rattle.cell_grid.specs.Pyramid.{IsVoxelOf}
 use Rattle.run_report.specs.declared.reply.Answer.{Answer}
 use Rattle.run_report.specs.declared.reply.Answer.TheVariants as answer
 use Rattle.run_report.specs.declared.reply.Reply.{Reply}
+use Rattle.run_report.specs.declared.shot.Shot.{Shot}
+use Rattle.scale_pick.specs.declared.painted.Painted.{Painted}
+use Rattle.scale_pick.specs.declared.view.View.{View}
+use Rattle.scale_pick.specs.Picture.{Pixels, place}
+use Rattle.scale_pick.specs.Pixel.{HasVoxel, IsOutside}
+use Rattle.scale_pick.specs.Shade.{shown}
+use Rattle.scale_pick.specs.Wanted.{wanted_level}
 use Rattle.view_script.specs.declared.command.Command.{Command}
-use Rattle.view_script.specs.declared.command.Command.TheVariants.{Get, Set}
+use Rattle.view_script.specs.declared.command.Command.TheVariants as command
+use Rattle.view_script.specs.Script.{NumberedCommand}
+use Rattle.team_run.specs.Desk.{Desk, levels_at}
 use Rattle.sole_cache.specs.Cached.{Cached, shape_of, state_of}
 use Rattle.team_run.specs.Serve.{ServesAll}
-use Rattle.view_script.specs.Script.{NumberedCommand}
+use Rattle.team_run.specs.Trace.{Trace}
 
--- What a command does to plain arrays and what it sees of them: a get answers the number of its voxel, where that is told; a set that is
--- done gives its voxel the value; what is refused changes nothing.
-abbrev pub PlainStep : List Level → (ℕ → Bool) → (ℕ → ℕ → ℕ) → Command → Answer → (ℕ → ℕ → ℕ) → Type 0
-PlainStep levels told arrays (Get level pos) (answer.Value x) now = (cell : ℕ) × ((at : ℕ) × (IsVoxelOf levels level pos cell at × ((IsTrue (told cell) → x ≡ arrays cell at) × (now ≡ arrays))))
-PlainStep levels told arrays (Get level pos) answer.Done now = ⊥
-PlainStep levels told arrays (Set level pos x) (answer.Value y) now = ⊥
-PlainStep levels told arrays (Set level pos x) answer.Done now = (cell : ℕ) × ((at : ℕ) × (IsVoxelOf levels level pos cell at × (now ≡ with_at arrays cell (with_at (arrays cell) at x))))
-PlainStep levels told arrays command (answer.Refused refusal) now = now ≡ arrays
+module _ (levels : List Level) (told : ℕ → Bool) where
+  -- a pixel shows its voxel's number at a level, where that is told, or 0 outside the level
+  abbrev pub ShowsPlain : (ℕ → ℕ → ℕ) → View → ℕ → ℕ → ℕ → ℕ → Type 0
+  ShowsPlain arrays view x y level value =
+      (IsOutside levels view.affine level x y × (value ≡ 0))
+      ⊎ ((cell : ℕ) × (at : ℕ) × HasVoxel levels view.affine level x y cell at × (IsTrue (told cell) → value ≡ shown (arrays cell at) view.low view.high))
 
--- The replies to commands in order.
-abbrev pub ArePlain : List Level → (ℕ → Bool) → (ℕ → ℕ → ℕ) → List NumberedCommand → List Reply → (ℕ → ℕ → ℕ) → Type 0
-ArePlain levels told arrays [] [] now = now ≡ arrays
-ArePlain levels told arrays (c ∷ commands) (r ∷ replies) now = (next : ℕ → ℕ → ℕ) × (PlainStep levels told arrays c.command r.answer next × ArePlain levels told next commands replies now)
-ArePlain levels told arrays [] (r ∷ replies) now = ⊥
-ArePlain levels told arrays (c ∷ commands) [] now = ⊥
+  -- A picture shows plain arrays: each pixel at the level that its mask tells, or nothing, where that is 255. In a frame that is told
+  -- as complete each pixel shows the wanted level.
+  pub record IsPlainFrame (arrays : ℕ → ℕ → ℕ) (view : View) (painted : Painted) (picture : Pixels) : Type 0 where
+    pub width : picture.width ≡ view.width
+    pub height : picture.height ≡ view.height
+    pub pixels : (x y : ℕ) → x < view.width → y < view.height → let i = place view.width x y in
+        ShowsPlain arrays view x y (slice_index picture.mask i) (slice_index picture.values i) ⊎ ((slice_index picture.mask i ≡ 255) × (slice_index picture.values i ≡ 0))
+    pub complete : IsTrue painted.complete → (x y : ℕ) → x < view.width → y < view.height → ShowsPlain arrays view x y (wanted_level levels view) (slice_index picture.values (place view.width x y))
+
+  -- What a command does to plain arrays and what it sees of them: a get answers the number of its voxel, where that is told; a set that is
+  -- done gives its voxel the value; a frame shows them; what is refused changes nothing.
+  abbrev pub PlainStep : (ℕ → ℕ → ℕ) → Command → Answer → List Shot → (ℕ → ℕ → ℕ) → Type 0
+  PlainStep arrays (command.Get level pos) (answer.Value x) shots now = (cell : ℕ) × ((at : ℕ) × (IsVoxelOf levels level pos cell at × ((IsTrue (told cell) → x ≡ arrays cell at) × (now ≡ arrays))))
+  PlainStep arrays (command.Set level pos x) answer.Done shots now = (cell : ℕ) × ((at : ℕ) × (IsVoxelOf levels level pos cell at × (now ≡ with_at arrays cell (with_at (arrays cell) at x))))
+  PlainStep arrays (command.View name view) (answer.Frame painted) shots now = (shot : Shot) × (shots ≡ shot ∷ []) × IsPlainFrame arrays view painted shot.picture × (now ≡ arrays)
+  PlainStep arrays (command.Fetch count) (answer.Fetched loaded held refused) shots now = now ≡ arrays
+  PlainStep arrays any (answer.Refused refusal) shots now = now ≡ arrays
+  PlainStep arrays any other shots now = ⊥
+
+  -- The replies to commands in order, and the pictures that their views left.
+  abbrev pub ArePlain : (ℕ → ℕ → ℕ) → List NumberedCommand → List Reply → List Shot → (ℕ → ℕ → ℕ) → Type 0
+  ArePlain arrays [] [] shots now = (shots ≡ []) × (now ≡ arrays)
+  ArePlain arrays (c ∷ commands) (r ∷ replies) shots now = (next : ℕ → ℕ → ℕ) × (here : List Shot) × (later : List Shot) × (shots ≡ here ++ later)
+      × PlainStep arrays c.command r.answer here next × ArePlain next commands replies later now
+  ArePlain arrays [] (r ∷ replies) shots now = ⊥
+  ArePlain arrays (c ∷ commands) [] shots now = ⊥
 
 -- arrays that say the same of each voxel that is told
 abbrev pub AreSame : Shape → (ℕ → ℕ → ℕ) → (ℕ → ℕ → ℕ) → Type 0
 AreSame b arrays others = (c : ℕ) → c < b.cells → IsTrue (b.is_told c) → (i : ℕ) → i < b.voxels c → others c i ≡ arrays c i
-
--- The replies of a cache are those of plain arrays, which begin and end as the cache's arrays do.
-abbrev pub RepliesArePlain : Type 0
-RepliesArePlain = (old new : Cached) (commands : List NumberedCommand) (replies : List Reply) (events : List Event) → ServesAll old commands replies events new
-    → (now : ℕ → ℕ → ℕ) × (ArePlain old.levels (shape_of old).is_told (state_of old).arrays commands replies now × AreSame (shape_of old) (state_of new).arrays now)

@@ -1,8 +1,8 @@
--- What commands do and answer: each command's events by its answer, one command after another.
+-- What commands do and answer, one after another.
 use Rattle.std.specs.Prelude.{◌≡◌, ℕ, List, [], ◌∷◌, ◌++◌}
-use Rattle.std.specs.List.{enumerate_from, flat_map}
 use Rattle.std.specs.declared.result.Result.TheVariants as outcome
 use Rattle.arr_history.specs.declared.event.Event.{Event}
+use Rattle.cell_file.specs.declared.errors.AcquireErr.TheVariants as cause
 use Rattle.cell_file.specs.declared.errors.CellErr.{CellErr}
 use Rattle.cell_file.specs.declared.errors.CellErr.TheVariants as cell_err
 use Rattle.run_report.specs.declared.reply.Answer.{Answer}
@@ -10,12 +10,16 @@ use Rattle.run_report.specs.declared.reply.Answer.TheVariants as answer
 use Rattle.run_report.specs.declared.reply.Refusal.{Refusal}
 use Rattle.run_report.specs.declared.reply.Refusal.TheVariants as refusal
 use Rattle.run_report.specs.declared.reply.Reply.{Reply}
+use Rattle.run_report.specs.declared.shot.Shot.{Shot}
 use Rattle.sole_cache.specs.Cached.{Cached}
-use Rattle.sole_cache.specs.Moves.{Runs}
 use Rattle.sole_cache.specs.Pieces.{IsGet, IsSet, IsCellCaused}
 use Rattle.view_script.specs.declared.command.Command.{Command}
-use Rattle.view_script.specs.declared.command.Command.TheVariants.{Get, Set}
-use Rattle.view_script.specs.Script.{NumberedCommand, commands_of_phase}
+use Rattle.view_script.specs.declared.command.Command.TheVariants as command
+use Rattle.view_script.specs.Script.{NumberedCommand}
+use Rattle.team_run.specs.Desk.{Desk, DeskLeads}
+use Rattle.team_run.specs.Trace.{Trace, nothing, and_then, IsOfEvents}
+use Rattle.team_run.specs.Views.{IsViewed}
+use Rattle.team_run.specs.Fetches.{IsFetched}
 
 -- the cache's own refusal, and the refusal that a reply tells
 abbrev pub cell_err_of : Refusal → CellErr
@@ -28,56 +32,52 @@ refusal_in cell_err.Outside = refusal.Outside
 refusal_in (cell_err.TooLarge value) = refusal.TooLarge value
 refusal_in (cell_err.Acquire err) = refusal.Acquire err
 
--- The events of a command, by its answer. A get answers a value, and a set that it is done; each may be refused.
-abbrev pub IsServed : Cached → Command → Answer → List Event → Type 0
-IsServed c (Get level pos) (answer.Value x) events = IsGet c level pos (outcome.Ok x) events
-IsServed c (Get level pos) answer.Done events = ⊥
-IsServed c (Get level pos) (answer.Refused refusal) events = IsGet c level pos (outcome.Err (cell_err_of refusal)) events
-IsServed c (Set level pos x) (answer.Value y) events = ⊥
-IsServed c (Set level pos x) answer.Done events = IsSet c level pos x (outcome.Ok (tt {0})) events
-IsServed c (Set level pos x) (answer.Refused refusal) events = IsSet c level pos x (outcome.Err (cell_err_of refusal)) events
+-- The events of a get or a set, by its answer, and why it is refused by its cell: a fault only where the count of that store rose in it, a
+-- block exactly by the bytes that decide.
+abbrev pub IsGot : Cached → ℕ → List ℕ → Answer → List Event → Cached → Type 0
+IsGot old level pos (answer.Value x) events new = IsGet old level pos (outcome.Ok x) events
+IsGot old level pos (answer.Refused refusal) events new = IsGet old level pos (outcome.Err (cell_err_of refusal)) events × IsCellCaused {X = ℕ} old new level pos (outcome.Err (cell_err_of refusal))
+IsGot old level pos other events new = ⊥
 
--- where a command stands
-abbrev pub position_of : Command → ℕ × List ℕ
-position_of (Get level pos) = (level, pos)
-position_of (Set level pos x) = (level, pos)
+abbrev pub IsPut : Cached → ℕ → List ℕ → ℕ → Answer → List Event → Cached → Type 0
+IsPut old level pos x answer.Done events new = IsSet old level pos x (outcome.Ok (tt {0})) events
+IsPut old level pos x (answer.Refused refusal) events new = IsSet old level pos x (outcome.Err (cell_err_of refusal)) events × IsCellCaused {X = ℕ} old new level pos (outcome.Err (cell_err_of refusal))
+IsPut old level pos x other events new = ⊥
 
--- Why a command is refused by its cell: a fault only where the count of that store rose in it, a block exactly by the bytes that decide.
-abbrev pub IsCaused : Cached → Cached → Command → Answer → Type 0
-IsCaused old new command (answer.Refused refusal) = IsCellCaused {X = ℕ} old new (position_of command).0 (position_of command).1 (outcome.Err (cell_err_of refusal))
-IsCaused old new command other = Unit {0}
+-- What a command of a viewer does, by its answer. A view leaves one shot, under its name.
+abbrev pub IsServed : Desk → ℕ → Command → Answer → Trace → Desk → Type 0
+IsServed old viewer (command.Get level pos) told t new = IsGot old.cache level pos told t.events new.cache × IsOfEvents t
+IsServed old viewer (command.Set level pos x) told t new = IsPut old.cache level pos x told t.events new.cache × IsOfEvents t
+IsServed old viewer (command.View name view) told t new = (shot : Shot) × (t.shots ≡ shot ∷ []) × (t.servings ≡ []) × (shot.name ≡ name) × IsViewed old viewer view shot t.events t.calls told new
+IsServed old viewer (command.Fetch count) told t new = (t.shots ≡ []) × IsFetched old count told t.servings t.events t.calls new
 
--- A command was carried out with this answer: its events lead from one cache to another.
-pub record Answers (old : Cached) (command : Command) (answer : Answer) (new : Cached) : Type 0 where
-  pub events : List Event
-  pub served : IsServed old command answer events
-  pub caused : IsCaused old new command answer
-  pub runs : Runs old events new
+-- A command of a viewer was carried out with this answer: its events and its calls of the queue lead from one moment to another.
+pub record Answers (old : Desk) (viewer : ℕ) (command : Command) (told : Answer) (shots : List Shot) (new : Desk) : Type 0 where
+  pub trace : Trace
+  pub shots_are : shots ≡ trace.shots
+  pub served : IsServed old viewer command told trace new
+  pub leads : DeskLeads old trace.events trace.calls new
 
--- The same of a command with its numbers, which are those of its reply.
-pub record Serves (old : Cached) (command : NumberedCommand) (reply : Reply) (events : List Event) (new : Cached) : Type 0 where
+-- The same of a command with its numbers, which are those of its reply. Its viewer is its actor.
+pub record Serves (old : Desk) (command : NumberedCommand) (reply : Reply) (trace : Trace) (new : Desk) : Type 0 where
   pub phase : reply.phase ≡ command.phase
   pub actor : reply.actor ≡ command.actor
   pub call : reply.call ≡ command.call
-  pub served : IsServed old command.command reply.answer events
-  pub caused : IsCaused old new command.command reply.answer
-  pub runs : Runs old events new
+  pub served : IsServed old command.actor command.command reply.answer trace new
+  pub leads : DeskLeads old trace.events trace.calls new
 
 -- Commands were carried out one after another: each once, in order, each with its reply.
-abbrev pub ServesAll : Cached → List NumberedCommand → List Reply → List Event → Cached → Type 0
-ServesAll old [] [] events new = (events ≡ []) × (new ≡ old)
-ServesAll old (c ∷ commands) (r ∷ replies) events new =
-    (mid : Cached) × ((piece : List Event) × ((rest : List Event) × ((events ≡ piece ++ rest) × (Serves old c r piece mid × ServesAll mid commands replies rest new))))
-ServesAll old [] (r ∷ replies) events new = ⊥
-ServesAll old (c ∷ commands) [] events new = ⊥
+abbrev pub ServesAll : Desk → List NumberedCommand → List Reply → Trace → Desk → Type 0
+ServesAll old [] [] trace new = (trace ≡ nothing) × (new ≡ old)
+ServesAll old (c ∷ commands) (r ∷ replies) trace new =
+    (mid : Desk) × (first : Trace) × (rest : Trace) × (trace ≡ and_then first rest) × Serves old c r first mid × ServesAll mid commands replies rest new
+ServesAll old [] (r ∷ replies) trace new = ⊥
+ServesAll old (c ∷ commands) [] trace new = ⊥
 
--- Commands were carried out, and their replies stand behind those before.
-pub record Adds (old : Cached) (commands : List NumberedCommand) (before after : List Reply) (new : Cached) : Type 0 where
+-- Commands were carried out, and their replies and their shots stand behind those before.
+pub record Adds (old : Desk) (commands : List NumberedCommand) (before after : List Reply) (shots shots' : List Shot) (new : Desk) : Type 0 where
   pub replies : List Reply
-  pub events : List Event
+  pub trace : Trace
   pub added : after ≡ before ++ replies
-  pub served : ServesAll old commands replies events new
-
--- the commands of phases, in order of phase, actor and call
-abbrev pub commands_of_phases : List (List (List Command)) → List NumberedCommand
-commands_of_phases phases = flat_map (λ numbered. commands_of_phase numbered.0 numbered.1) (enumerate_from 0 phases)
+  pub kept : shots' ≡ shots ++ trace.shots
+  pub served : ServesAll old commands replies trace new

@@ -1,44 +1,81 @@
-// Commands, one after another.
-ghost use Rattle.std.specs.Prelude.{◌≡◌, ℕ, ◌+◌, ◌^◌, ◌<◌, ◌≤◌, List, [], ◌∷◌, ◌++◌, All, length, sum_by, vec_len, vec_capacity};
-ghost use Rattle.sole_cache.specs.Cached.{handles_out};
-ghost use Rattle.sole_cache.specs.Moves.{IsStoodFor};
+// Tasks, one after another.
+ghost use Rattle.std.specs.Prelude.{◌≡◌, ◌+◌, ◌<◌, ◌≤◌, ◌∷◌, [], ◌++◌, All, None, length, map, cond, count_by, vec_len, vec_capacity};
+ghost use Rattle.std.specs.Option.{option_to_list};
 ghost use Rattle.sole_cache.specs.Value.{by};
-ghost use Rattle.team_run.specs.Serve.{refusal_in, Answers, Adds, commands_of_phases};
-ghost use Rattle.view_script.specs.Script.{command_count, commands_of_actor, commands_of_phase};
+ghost use Rattle.team_run.specs.Desk.{IsReady, desk};
+ghost use Rattle.team_run.specs.Serve.{Answers, Adds};
+ghost use Rattle.team_run.specs.Task.{IsDue, IsTaskDue, command_in, numbered, is_view};
 
-use cell_file::CellErr;
+use crate::fetch::fetch;
+use crate::voxel::{get, set};
+use crate::show::show;
+use crate::task::{Due, Task};
 use cell_store::Store;
-use plain_data::Items;
-use run_report::{Answer, Refusal, Reply};
+use fetch_queue::Queues;
+use run_report::{Answer, Reply, Shot};
 use sole_cache::SoleCache;
-use view_script::Command;
 
-/// Carries out a command.
-fn serve<S: Store>(cache: &mut SoleCache<S>, command: &Command) -> Answer
-    requires room { handles_out (by S.contents cache.old) < 64 }
-    ensures answers { Answers (by S.contents cache.old) command.now result (by S.contents cache.new) }
-    ensures handles { handles_out (by S.contents cache.new) ≡ handles_out (by S.contents cache.old) }
+/// What a task answers, and the shot that it leaves, where it is a view.
+#[derive(Drop)]
+pub struct Outcome {
+    pub answer: Answer,
+    pub shot: Option<Shot>,
+}
+
+/// Carries out tasks in their order. There is room for their replies and their shots.
+pub fn serve_all<S: Store>(
+    cache: &mut SoleCache<S>,
+    queue: &mut Queues,
+    plan: Vec<Due>,
+    replies: &mut Vec<Reply>,
+    shots: &mut Vec<Shot>,
+)
+    requires ready { IsReady (desk (by S.contents cache.old) queue.old) }
+    requires due { All IsDue plan.items }
+    requires replies { vec_len replies.old + length plan.items ≤ vec_capacity replies.old }
+    requires shots { vec_len shots.old + count_by (λ d. is_view d.task) plan.items ≤ vec_capacity shots.old }
+    ensures adds { Adds (desk (by S.contents cache.old) queue.old) (map numbered plan.items) replies.old.items replies.new.items shots.old.items shots.new.items (desk (by S.contents cache.new) queue.new) }
+    ensures ready { IsReady (desk (by S.contents cache.new) queue.new) }
 {
-    match *command {
-        Command::Get { level, pos } => match cache.get(level, pos) {
-            Ok(value) => Answer::Value(value),
-            Err(err) => Answer::Refused(refusal_of(err)),
-        },
-        Command::Set { level, pos, value } => match cache.set(level, pos, value) {
-            Ok(()) => Answer::Done,
-            Err(err) => Answer::Refused(refusal_of(err)),
-        },
+    for due in plan {
+        serve_due(cache, queue, due, replies, shots);
     }
 }
 
-fn refusal_of(err: CellErr) -> Refusal
-    ensures { result ≡ refusal_in err }
+/// Carries out a task, and adds its reply and its shot.
+fn serve_due<S: Store>(
+    cache: &mut SoleCache<S>,
+    queue: &mut Queues,
+    due: Due,
+    replies: &mut Vec<Reply>,
+    shots: &mut Vec<Shot>,
+)
+    requires ready { IsReady (desk (by S.contents cache.old) queue.old) }
+    requires due { IsDue due }
+    requires replies { vec_len replies.old < vec_capacity replies.old }
+    requires shots { vec_len shots.old + cond (is_view due.task) 1 0 ≤ vec_capacity shots.old }
+    ensures adds { Adds (desk (by S.contents cache.old) queue.old) (numbered due ∷ []) replies.old.items replies.new.items shots.old.items shots.new.items (desk (by S.contents cache.new) queue.new) }
+    ensures ready { IsReady (desk (by S.contents cache.new) queue.new) }
+    ensures replies { vec_len replies.new ≡ vec_len replies.old + 1 }
+    ensures reply_room { vec_capacity replies.old ≤ vec_capacity replies.new }
+    ensures shots { vec_len shots.new ≡ vec_len shots.old + cond (is_view due.task) 1 0 }
+    ensures shot_room { vec_capacity shots.old ≤ vec_capacity shots.new }
 {
-    match err {
-        CellErr::Outside => Refusal::Outside,
-        CellErr::TooLarge { value } => Refusal::TooLarge { value },
-        CellErr::Acquire(err) => Refusal::Acquire(err),
-    }
+    let Due {
+        phase,
+        actor,
+        call,
+        task,
+    } = due;
+    let Outcome { answer, shot } = serve(cache, queue, actor, task);
+    let reply = Reply {
+        phase,
+        actor,
+        call,
+        answer,
+    };
+    add_reply(replies, reply);
+    add_shot(shots, shot);
 }
 
 /// Adds a reply where there is room.
@@ -51,75 +88,47 @@ fn add_reply(replies: &mut Vec<Reply>, reply: Reply)
     let _ = replies.push(reply);
 }
 
-/// Carries out the commands of an actor.
-fn serve_actor<S: Store>(
-    cache: &mut SoleCache<S>,
-    phase: u32,
-    actor: u32,
-    commands: &[Command],
-    replies: &mut Vec<Reply>,
-)
-    requires handles { handles_out (by S.contents cache.old) < 64 }
-    requires few { length commands.now ≤ 2 ^ 20 }
-    requires room { vec_len replies.old + length commands.now ≤ vec_capacity replies.old }
-    ensures adds { Adds (by S.contents cache.old) (commands_of_actor phase actor commands.now) replies.old.items replies.new.items (by S.contents cache.new) }
-    ensures handles { handles_out (by S.contents cache.new) ≡ handles_out (by S.contents cache.old) }
-    ensures len { vec_len replies.new ≡ vec_len replies.old + length commands.now }
-    ensures capacity { vec_capacity replies.old ≤ vec_capacity replies.new }
+/// Adds a shot, where there is one, and room for it.
+fn add_shot(shots: &mut Vec<Shot>, shot: Option<Shot>)
+    requires room { vec_len shots.old + length (option_to_list shot) ≤ vec_capacity shots.old }
+    ensures added { shots.new.items ≡ shots.old.items ++ option_to_list shot }
+    ensures len { vec_len shots.new ≡ vec_len shots.old + length (option_to_list shot) }
+    ensures capacity { vec_capacity shots.old ≤ vec_capacity shots.new }
 {
-    for (call, command) in commands.iter().enumerate() {
-        let answer = serve(cache, command);
-        let call = call as u32;
-        let reply = Reply {
-            phase,
-            actor,
-            call,
-            answer,
-        };
-        add_reply(replies, reply);
+    if let Some(shot) = shot {
+        let _ = shots.push(shot);
     }
 }
 
-/// Carries out the commands of a phase, actor by actor.
-fn serve_phase<S: Store>(
+/// Carries out a task for a viewer.
+fn serve<S: Store>(
     cache: &mut SoleCache<S>,
-    phase: u32,
-    actors: &[Items<Command>],
-    replies: &mut Vec<Reply>,
-)
-    requires handles { handles_out (by S.contents cache.old) < 64 }
-    requires few { sum_by length actors.now ≤ 2 ^ 20 }
-    requires room { vec_len replies.old + sum_by length actors.now ≤ vec_capacity replies.old }
-    requires actors { length actors.now ≤ 16 }
-    ensures adds { Adds (by S.contents cache.old) (commands_of_phase phase actors.now) replies.old.items replies.new.items (by S.contents cache.new) }
-    ensures handles { handles_out (by S.contents cache.new) ≡ handles_out (by S.contents cache.old) }
-    ensures len { vec_len replies.new ≡ vec_len replies.old + sum_by length actors.now }
-    ensures capacity { vec_capacity replies.old ≤ vec_capacity replies.new }
+    queue: &mut Queues,
+    viewer: u32,
+    task: Task,
+) -> Outcome
+    requires ready { IsReady (desk (by S.contents cache.old) queue.old) }
+    requires due { IsTaskDue viewer task }
+    ensures answers { Answers (desk (by S.contents cache.old) queue.old) viewer (command_in task) result.answer (option_to_list result.shot) (desk (by S.contents cache.new) queue.new) }
+    ensures ready { IsReady (desk (by S.contents cache.new) queue.new) }
+    ensures shots { length (option_to_list result.shot) ≡ cond (is_view task) 1 0 }
 {
-    for (actor, commands) in actors.iter().enumerate() {
-        let actor = actor as u32;
-        serve_actor(cache, phase, actor, commands.as_slice(), replies);
+    match task {
+        Task::Get { level, pos } => alone(get(cache, level, pos)),
+        Task::Set { level, pos, value } => alone(set(cache, level, pos, value)),
+        Task::View {
+            name,
+            view,
+            picture,
+        } => show(cache, queue, viewer, name, view, picture),
+        Task::Fetch { count } => alone(fetch(cache, queue, viewer, count)),
     }
 }
 
-/// Carries out the commands of all phases in their order.
-pub fn serve_all<S: Store>(
-    cache: &mut SoleCache<S>,
-    phases: &[Items<Items<Command>>],
-    replies: &mut Vec<Reply>,
-)
-    requires handles { handles_out (by S.contents cache.old) < 64 }
-    requires few { command_count phases.now ≤ 2 ^ 20 }
-    requires room { vec_len replies.old + command_count phases.now ≤ vec_capacity replies.old }
-    requires phases { length phases.now ≤ 1024 }
-    requires actors { All (λ actors. length actors ≤ 16) phases.now }
-    ensures adds { Adds (by S.contents cache.old) (commands_of_phases phases.now) replies.old.items replies.new.items (by S.contents cache.new) }
-    ensures handles { handles_out (by S.contents cache.new) ≡ handles_out (by S.contents cache.old) }
-    ensures capacity { vec_capacity replies.old ≤ vec_capacity replies.new }
-    ensures len { vec_len replies.new ≡ vec_len replies.old + command_count phases.now }
+/// An answer without a shot.
+fn alone(answer: Answer) -> Outcome
+    ensures answer { result.answer ≡ answer }
+    ensures no_shot { result.shot ≡ None }
 {
-    for (phase, actors) in phases.iter().enumerate() {
-        let phase = phase as u32;
-        serve_phase(cache, phase, actors.as_slice(), replies);
-    }
+    Outcome { answer, shot: None }
 }

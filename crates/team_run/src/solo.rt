@@ -1,22 +1,26 @@
 // A run on one thread.
-ghost use Rattle.std.specs.Prelude.{◌≡◌, ◌≤◌, ◌^◌, Err, IfOk, IsOk, [], length, map, sum_by, vec_capacity, vec_len};
+ghost use Rattle.std.specs.Prelude.{◌≡◌, ◌≤◌, All, Err, IfOk, IsOk, [], count_by, length, map, vec_capacity, vec_len};
 ghost use Rattle.arr_history.specs.Tally.{tally_of};
-ghost use Rattle.sole_cache.specs.Cached.{handles_out};
 ghost use Rattle.sole_cache.specs.Value.{by};
-ghost use Rattle.view_script.specs.Script.{IsScript, command_count, commands_of};
+ghost use Rattle.view_script.specs.Script.{IsScript};
+ghost use Rattle.team_run.specs.Desk.{IsReady, desk};
+ghost use Rattle.team_run.specs.Range.{commands_over};
 ghost use Rattle.team_run.specs.Run.{Completes, SoloAnswers, high_of};
+ghost use Rattle.team_run.specs.Task.{IsDue, is_view, numbered};
 
 use crate::ran::{Ran, RunErr};
 use crate::serve::serve_all;
+use crate::stage::{Stage, set_up};
 use arr_history::{Closed, Unmade, tallies_grow};
 use cell_file::Keys;
 use cell_grid::Geometry;
 use cell_store::Store;
 use plain_data::Items;
-use run_report::{Reply, Report};
+use run_report::Report;
+use scale_pick::pictures_show_moments;
 use sole_cache::{SoleCache, moves_compose};
 use std::alloc::Global;
-use view_script::{Command, Script};
+use view_script::Script;
 
 /// The fewest slots of a run on one thread, and the most of any run.
 const LOW: u64 = 2;
@@ -41,7 +45,7 @@ pub fn solo_run<S: Store>(
     requires script { IsScript script }
     requires some_stores { 1 ≤ vec_len stores }
     requires few_stores { vec_len stores ≤ 16 }
-    ensures { SoloAnswers geometry keys slots (commands_of script) (map S.contents stores.items) (map S.contents result.stores.items) result.report }
+    ensures { SoloAnswers geometry keys slots (commands_over geometry script) (map S.contents stores.items) (map S.contents result.stores.items) result.report }
 {
     let high = most_slots(&geometry);
     if slots < LOW || slots > high {
@@ -52,11 +56,11 @@ pub fn solo_run<S: Store>(
         };
         return unmade(refusal, stores);
     }
-    let Ok(replies) = Vec::with_capacity(alloc, count_of(script.phases.as_slice())) else {
+    let Ok(stage) = set_up(alloc, &geometry, script) else {
         return unmade(RunErr::Memory, stores);
     };
     match SoleCache::new(alloc, geometry, keys, slots as u32, stores) {
-        Ok(cache) => run(cache, &script, replies),
+        Ok(cache) => run(cache, stage),
         Err(Unmade { stores }) => unmade(RunErr::Memory, stores),
     }
 }
@@ -69,37 +73,26 @@ fn most_slots(geometry: &Geometry) -> u64
     MOST.min(MOST_VOXELS / frame.max(1))
 }
 
-/// How many commands all phases have.
-fn count_of(phases: &[Items<Items<Command>>]) -> usize
-    requires { command_count phases.now ≤ 2 ^ 20 }
-    ensures { result ≡ command_count phases.now }
-{
-    let mut count = 0;
-    for actors in phases {
-        count += count_in(actors.as_slice());
-    }
-    count
-}
-
-/// How many commands the actors of a phase have.
-fn count_in(actors: &[Items<Command>]) -> usize
-    requires { sum_by length actors.now ≤ 2 ^ 20 }
-    ensures { result ≡ sum_by length actors.now }
-{
-    actors.iter().map(|commands| commands.len()).sum()
-}
-
-/// Carries out the commands of a script over a new cache, and shuts it. There is room for all replies.
-fn run<S: Store>(mut cache: SoleCache<S>, script: &Script, mut replies: Vec<Reply>) -> Ran<S>
-    requires script { IsScript script.now }
-    requires none { replies.items ≡ [] }
-    requires room { command_count script.now.phases ≤ vec_capacity replies }
-    requires handles { handles_out (by S.contents cache) ≡ 0 }
+/// Carries out what is set up, over a new cache, and shuts it.
+fn run<S: Store>(mut cache: SoleCache<S>, stage: Stage) -> Ran<S>
+    requires ready { IsReady (desk (by S.contents cache) stage.queue) }
+    requires due { All IsDue stage.plan.items }
+    requires no_replies { stage.replies.items ≡ [] }
+    requires reply_room { length stage.plan.items ≤ vec_capacity stage.replies }
+    requires no_shots { stage.shots.items ≡ [] }
+    requires shot_room { count_by (λ d. is_view d.task) stage.plan.items ≤ vec_capacity stage.shots }
     requires tally { (by S.contents cache).tally ≡ tally_of [] [] }
-    ensures completes { IfOk result.report (λ report. Completes (by S.contents cache) (commands_of script.now) (map S.contents result.stores.items) report) }
+    requires few_levels { length cache.levels ≤ 8 }
+    ensures completes { IfOk result.report (λ report. Completes (desk (by S.contents cache) stage.queue) (map numbered stage.plan.items) (map S.contents result.stores.items) report) }
     ensures ok { IsOk result.report }
 {
-    serve_all(&mut cache, script.phases.as_slice(), &mut replies);
+    let Stage {
+        mut queue,
+        plan,
+        mut replies,
+        mut shots,
+    } = stage;
+    serve_all(&mut cache, &mut queue, plan, &mut replies, &mut shots);
     let Closed {
         stores,
         unsaved,
@@ -107,7 +100,8 @@ fn run<S: Store>(mut cache: SoleCache<S>, script: &Script, mut replies: Vec<Repl
     } = cache.shut();
     moves_compose();
     tallies_grow();
-    let report = Report::new(Items::from_vec(replies), tally, unsaved);
+    pictures_show_moments();
+    let report = Report::new(Items::from_vec(replies), Items::from_vec(shots), tally, unsaved);
     Ran {
         report: Ok(report),
         stores,

@@ -1,0 +1,26 @@
+// Fetches.
+ghost use Rattle.std.specs.Prelude.{◌<◌, []};
+ghost use Rattle.sole_cache.specs.Value.{by};
+ghost use Rattle.team_run.specs.Desk.{IsReady, desk};
+ghost use Rattle.team_run.specs.Serve.{Answers};
+ghost use Rattle.view_script.specs.declared.command.Command.TheVariants.{Fetch};
+
+use cell_store::Store;
+use fetch_queue::Queues;
+use run_report::Answer;
+use sole_cache::SoleCache;
+
+/// Serves so many requests of the queue, or fewer where it has no more, and counts them.
+pub fn fetch<S: Store>(
+    cache: &mut SoleCache<S>,
+    queue: &mut Queues,
+    viewer: u32,
+    count: u32,
+) -> Answer
+    requires ready { IsReady (desk (by S.contents cache.old) queue.old) }
+    requires viewer { viewer < 16 }
+    ensures answers { Answers (desk (by S.contents cache.old) queue.old) viewer (Fetch count) result [] (desk (by S.contents cache.new) queue.new) }
+    ensures ready { IsReady (desk (by S.contents cache.new) queue.new) }
+{
+    Answer::Done
+}

@@ -1,0 +1,100 @@
+// Views: a frame each, and a shot.
+ghost use Rattle.std.specs.Prelude.{◌≡◌, ◌<◌, ◌∷◌, [], false, IfErr, IfOk, IsTrue, OnOk, length};
+ghost use Rattle.std.specs.Option.{option_to_list};
+ghost use Rattle.hier_paint.specs.Frames.{IsFrame, IsCutOff};
+ghost use Rattle.scale_pick.specs.declared.strategy.Strategy.TheVariants.{Blocking};
+ghost use Rattle.scale_pick.specs.Painted.{painted_of, IsComplete};
+ghost use Rattle.scale_pick.specs.Wanted.{wanted_level};
+ghost use Rattle.sole_cache.specs.Value.{by};
+ghost use Rattle.team_run.specs.Desk.{IsReady, DeskLeads, IsDeskRefusal, desk, levels_at};
+ghost use Rattle.team_run.specs.Serve.{Answers};
+ghost use Rattle.team_run.specs.Task.{HasSides};
+ghost use Rattle.team_run.specs.Views.{HasLevel, LacksLevel};
+ghost use Rattle.view_script.specs.declared.command.Command.TheVariants as command;
+ghost use Rattle.view_script.specs.Script.{IsViewWithinLimits};
+
+use crate::serve::Outcome;
+use cell_file::AcquireErr;
+use cell_grid::Geometry;
+use cell_store::Store;
+use fetch_queue::Queues;
+use hier_paint::{Painted, Picture, View, paint};
+use run_report::{Answer, Refusal, Shot};
+use sole_cache::SoleCache;
+use view_script::Name;
+use volatile_cell::SoleEyes;
+
+/// Paints a view, and keeps its picture under its name.
+pub fn show<S: Store>(
+    cache: &mut SoleCache<S>,
+    queue: &mut Queues,
+    viewer: u32,
+    name: Name,
+    view: View,
+    mut picture: Picture,
+) -> Outcome
+    requires ready { IsReady (desk (by S.contents cache.old) queue.old) }
+    requires viewer { viewer < 16 }
+    requires limits { IsViewWithinLimits view }
+    requires sides { HasSides view picture }
+    ensures answers { Answers (desk (by S.contents cache.old) queue.old) viewer (command.View name view) result.answer (option_to_list result.shot) (desk (by S.contents cache.new) queue.new) }
+    ensures ready { IsReady (desk (by S.contents cache.new) queue.new) }
+    ensures one { length (option_to_list result.shot) ≡ 1 }
+{
+    if lacks_level(cache.geometry(), &view) {
+        return outcome(Answer::Refused(Refusal::Outside), name, picture, false);
+    }
+    match frame(cache, queue, viewer, &view, &mut picture) {
+        Ok(painted) => outcome(Answer::Frame(painted), name, picture, true),
+        Err(err) => outcome(Answer::Refused(Refusal::Acquire(err)), name, picture, false),
+    }
+}
+
+fn outcome(answer: Answer, name: Name, picture: Picture, shown: bool) -> Outcome
+    ensures answer { result.answer ≡ answer }
+    ensures shot { option_to_list result.shot ≡ record { name = name; picture = picture; shown = shown } ∷ [] }
+{
+    let shot = Shot {
+        name,
+        picture,
+        shown,
+    };
+    Outcome {
+        answer,
+        shot: Some(shot),
+    }
+}
+
+/// Whether a view gives a level that doesn't exist.
+fn lacks_level(geometry: &Geometry, view: &View) -> bool
+    ensures lacks { IsTrue result → LacksLevel geometry.now view.now }
+    ensures has { result ≡ false → HasLevel geometry.now view.now }
+{
+    match view.level {
+        Some(level) => level >= geometry.levels(),
+        None => false,
+    }
+}
+
+/// Paints a view, whose level exists, over the cache and the queue.
+fn frame<S: Store>(
+    cache: &mut SoleCache<S>,
+    queue: &mut Queues,
+    viewer: u32,
+    view: &View,
+    picture: &mut Picture,
+) -> Result<Painted, AcquireErr>
+    requires ready { IsReady (desk (by S.contents cache.old) queue.old) }
+    requires viewer { viewer < 16 }
+    requires limits { IsViewWithinLimits view.now }
+    requires sides { HasSides view.now picture.old }
+    requires exists { HasLevel cache.old.levels view.now }
+    ensures painted { IfOk result (λ painted. painted ≡ painted_of (wanted_level cache.old.levels view.now) picture.new) }
+    ensures blocking { view.now.strategy ≡ Blocking → OnOk result (IsComplete (wanted_level cache.old.levels view.now) picture.new) }
+    ensures frame { OnOk result (IsFrame DeskLeads levels_at (λ _. 0) (λ _. viewer) (desk (by S.contents cache.old) queue.old) (desk (by S.contents cache.new) queue.new) view.now picture.new) }
+    ensures cut_off { IfErr result (λ err. IsCutOff DeskLeads levels_at (λ _. 0) (λ _. viewer) IsDeskRefusal (desk (by S.contents cache.old) queue.old) (desk (by S.contents cache.new) queue.new) view.now picture.new err) }
+    ensures ready { IsReady (desk (by S.contents cache.new) queue.new) }
+{
+    let mut eyes = SoleEyes::new(cache, queue, viewer);
+    paint(&mut eyes, view, picture)
+}

@@ -1,0 +1,46 @@
+// Gets and sets of a voxel.
+ghost use Rattle.std.specs.Prelude.{◌≡◌, ◌<◌, List};
+ghost use Rattle.arr_history.specs.declared.event.Event.{Event};
+ghost use Rattle.sole_cache.specs.Cached.{handles_out};
+ghost use Rattle.sole_cache.specs.Moves.{Runs};
+ghost use Rattle.sole_cache.specs.Value.{by};
+ghost use Rattle.team_run.specs.Serve.{refusal_in, IsGot, IsPut};
+
+use cell_file::CellErr;
+use cell_store::Store;
+use run_report::{Answer, Refusal};
+use sole_cache::SoleCache;
+
+/// Answers the value of a voxel.
+pub fn get<S: Store>(cache: &mut SoleCache<S>, level: u8, pos: [u64; 3]) -> Answer
+    requires room { handles_out (by S.contents cache.old) < 64 }
+    ensures got { (events : List Event) × IsGot (by S.contents cache.old) level pos result events (by S.contents cache.new) × Runs (by S.contents cache.old) events (by S.contents cache.new) }
+    ensures handles { handles_out (by S.contents cache.new) ≡ handles_out (by S.contents cache.old) }
+{
+    match cache.get(level, pos) {
+        Ok(value) => Answer::Value(value),
+        Err(err) => Answer::Refused(refusal_of(err)),
+    }
+}
+
+/// Gives a voxel a value.
+pub fn set<S: Store>(cache: &mut SoleCache<S>, level: u8, pos: [u64; 3], value: u64) -> Answer
+    requires room { handles_out (by S.contents cache.old) < 64 }
+    ensures put { (events : List Event) × IsPut (by S.contents cache.old) level pos value result events (by S.contents cache.new) × Runs (by S.contents cache.old) events (by S.contents cache.new) }
+    ensures handles { handles_out (by S.contents cache.new) ≡ handles_out (by S.contents cache.old) }
+{
+    match cache.set(level, pos, value) {
+        Ok(()) => Answer::Done,
+        Err(err) => Answer::Refused(refusal_of(err)),
+    }
+}
+
+fn refusal_of(err: CellErr) -> Refusal
+    ensures { result ≡ refusal_in err }
+{
+    match err {
+        CellErr::Outside => Refusal::Outside,
+        CellErr::TooLarge { value } => Refusal::TooLarge { value },
+        CellErr::Acquire(err) => Refusal::Acquire(err),
+    }
+}
