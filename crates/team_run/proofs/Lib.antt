@@ -1,0 +1,3 @@
+pub mod EyesLemmas
+pub mod AnswerLemmas
+pub mod ServeLemmas

@@ -1,0 +1,98 @@
+-- What commands answer, from what was done.
+use Rattle.std.proofs.Common.{◌≡◌, ℕ, List, [], ◌∷◌, ◌++◌, true, false, refl, subst}
+use Rattle.std.specs.Prelude.{Ok, Err}
+use Rattle.std.proofs.lemmas.List.{append-nil}
+use Rattle.arr_history.specs.declared.event.Event.{Event}
+use Rattle.cell_file.specs.declared.errors.AcquireErr.{AcquireErr}
+use Rattle.cell_file.specs.declared.errors.CellErr.{CellErr}
+use Rattle.cell_file.specs.declared.errors.CellErr.TheVariants as cell_err
+use Rattle.hier_paint.specs.Frames.{IsFrame, IsCutOff}
+use Rattle.run_report.specs.declared.reply.Answer.{Answer}
+use Rattle.run_report.specs.declared.reply.Answer.TheVariants as answer
+use Rattle.run_report.specs.declared.reply.Refusal.TheVariants as refusal
+use Rattle.run_report.specs.declared.shot.Shot.{Shot}
+use Rattle.scale_pick.specs.declared.painted.Painted.{Painted}
+use Rattle.scale_pick.specs.declared.strategy.Strategy.TheVariants.{Blocking}
+use Rattle.scale_pick.specs.declared.view.View.{View}
+use Rattle.scale_pick.specs.Painted.{painted_of, IsComplete}
+use Rattle.scale_pick.specs.Picture.{Pixels}
+use Rattle.scale_pick.specs.Wanted.{wanted_level}
+use Rattle.sole_cache.specs.Cached.{Cached}
+use Rattle.sole_cache.specs.Moves.{Runs}
+use Rattle.sole_cache.specs.Pieces.{IsGet, IsSet, IsCellCaused}
+use Rattle.view_script.specs.declared.command.Command.TheVariants as command
+use Rattle.volatile_cell.specs.Asked.{Asked}
+use Rattle.team_run.specs.Desk.{Desk, DeskLeads, IsDeskRefusal, desk, levels_at}
+use Rattle.team_run.specs.Serve.{Answers, IsGot, IsPut, refusal_in}
+use Rattle.team_run.specs.Trace.{Trace}
+use Rattle.team_run.specs.Views.{HasLevel, LacksLevel}
+use Rattle.team_run.proofs.EyesLemmas.{desk_on, desk_stays}
+use Rattle.fetch_queue.specs.Queue.{Queue}
+
+-- the refusals of a get and of a set
+pub got_refused : (a b : Cached) (level : ℕ) (pos : List ℕ) (err : CellErr) (events : List Event) → IsGet a level pos (Err err) events → IsCellCaused {X = ℕ} a b level pos (Err err)
+    → IsGot a level pos (answer.Refused (refusal_in err)) events b
+got_refused a b level pos cell_err.Outside events h cause = (h, cause)
+got_refused a b level pos (cell_err.TooLarge value) events h cause = (h, cause)
+got_refused a b level pos (cell_err.Acquire err) events h cause = (h, cause)
+
+pub put_refused : (a b : Cached) (level : ℕ) (pos : List ℕ) (x : ℕ) (err : CellErr) (events : List Event) → IsSet a level pos x (Err err) events → IsCellCaused {X = Unit {0}} a b level pos (Err err)
+    → IsPut a level pos x (answer.Refused (refusal_in err)) events b
+put_refused a b level pos x cell_err.Outside events h cause = (h, tt)
+put_refused a b level pos x (cell_err.TooLarge value) events h cause = (h, tt)
+put_refused a b level pos x (cell_err.Acquire err) events h cause = (h, cause)
+
+-- events alone lead from a cache with its queue
+events_lead : (a b : Cached) (q : Queue) (events : List Event) → Runs a events b → DeskLeads (desk a q) events [] (desk b q)
+events_lead a b q events runs = record { cache = record { moves = runs.moves; tally = λ _. runs.tally }; queue = refl }
+
+events_alone : List Event → Trace
+events_alone events = record { events = events; calls = []; shots = []; servings = [] }
+
+pub get_answers : (a b : Cached) (q : Queue) (viewer level : ℕ) (pos : List ℕ) (told : Answer) → (events : List Event) × IsGot a level pos told events b × Runs a events b
+    → Answers (desk a q) viewer (command.Get level pos) told [] (desk b q)
+unfolding events_alone
+get_answers a b q viewer level pos told h = record {
+  trace = events_alone h.0;
+  shots_are = refl;
+  served = (h.1, record { calls = refl; shots = refl; servings = refl });
+  leads = events_lead a b q h.0 h.2;
+}
+
+pub set_answers : (a b : Cached) (q : Queue) (viewer level : ℕ) (pos : List ℕ) (x : ℕ) (told : Answer) → (events : List Event) × IsPut a level pos x told events b × Runs a events b
+    → Answers (desk a q) viewer (command.Set level pos x) told [] (desk b q)
+unfolding events_alone
+set_answers a b q viewer level pos x told h = record {
+  trace = events_alone h.0;
+  shots_are = refl;
+  served = (h.1, record { calls = refl; shots = refl; servings = refl });
+  leads = events_lead a b q h.0 h.2;
+}
+
+module _ (a b : Desk) (viewer : ℕ) (view : View) (shot : Shot) where
+  pub no_level_answers : LacksLevel (levels_at a) view → shot.shown ≡ false → Answers a viewer (command.View shot.name view) (answer.Refused refusal.Outside) (shot ∷ []) a
+  no_level_answers lacks hidden = record {
+    trace = record { events = []; calls = []; shots = shot ∷ []; servings = [] };
+    shots_are = refl;
+    served = (shot, refl, refl, refl, record { lacks = lacks; hidden = hidden; no_events = refl; no_calls = refl });
+    leads = desk_stays a;
+  }
+
+  pub frame_answers : (painted : Painted) → HasLevel (levels_at a) view → shot.shown ≡ true → painted ≡ painted_of (wanted_level (levels_at a) view) shot.picture
+      → (view.strategy ≡ Blocking → IsComplete (wanted_level (levels_at a) view) shot.picture) → IsFrame DeskLeads levels_at (λ _. 0) (λ _. viewer) a b view shot.picture
+      → Answers a viewer (command.View shot.name view) (answer.Frame painted) (shot ∷ []) b
+  frame_answers painted exists shown told blocking frame = record {
+    trace = record { events = frame.events; calls = frame.calls; shots = shot ∷ []; servings = [] };
+    shots_are = refl;
+    served = (shot, refl, refl, refl, record { exists = exists; shown = shown; told = told; blocking = blocking; frame = frame; events_are = refl; calls_are = refl });
+    leads = frame.led;
+  }
+
+  pub cut_answers : (err : AcquireErr) → HasLevel (levels_at a) view → shot.shown ≡ false → IsCutOff DeskLeads levels_at (λ _. 0) (λ _. viewer) IsDeskRefusal a b view shot.picture err
+      → Answers a viewer (command.View shot.name view) (answer.Refused (refusal.Acquire err)) (shot ∷ []) b
+  cut_answers err exists hidden cut = record {
+    trace = record { events = cut.events ++ cut.piece; calls = cut.calls; shots = shot ∷ []; servings = [] };
+    shots_are = refl;
+    served = (shot, refl, refl, refl, record { exists = exists; hidden = hidden; cut = cut; events_are = refl; calls_are = refl });
+    leads = subst (λ (calls : List Asked). DeskLeads a (cut.events ++ cut.piece) calls b) (append-nil cut.calls) (desk_on a cut.between b cut.events cut.piece cut.calls [] cut.led cut.refused);
+  }
