@@ -22,13 +22,13 @@ taking request = asked call.Take (reply.Taken request) ∷ []
 
 module _ {E : Type 0} (leads : E → List Event → List Asked → E → Type 0) (levels : E → List Level) (number : E → ℕ) (caused : E → E → ℕ → AcquireErr → Type 0) where
   -- The queue had no request.
-  pub record ServesNone (e : E) (events : List Event) (calls : List Asked) (e' : E) : Type 0 where
+  pub record IsIdleServing (e : E) (events : List Event) (calls : List Asked) (e' : E) : Type 0 where
     pub took : calls ≡ taking None
     pub none : events ≡ []
     pub led : leads e events calls e'
 
   -- The cell of a request was pinned, loaded or not, and given back.
-  pub record ServesCell (e : E) (loaded : Bool) (events : List Event) (calls : List Asked) (e' : E) : Type 0 where
+  pub record IsGrantedServing (e : E) (loaded : Bool) (events : List Event) (calls : List Asked) (e' : E) : Type 0 where
     pub request : Request
     pub inside : request.cell < cells_of (levels e)
     pub took : calls ≡ taking (Some request)
@@ -38,7 +38,7 @@ module _ {E : Type 0} (leads : E → List Event → List Asked → E → Type 0)
     pub led : leads e events calls e'
 
   -- The cell of a request was refused, with its cause since the request was taken.
-  pub record ServesRefused (e : E) (err : AcquireErr) (events : List Event) (calls : List Asked) (e' : E) : Type 0 where
+  pub record IsRefusedServing (e : E) (err : AcquireErr) (events : List Event) (calls : List Asked) (e' : E) : Type 0 where
     pub request : Request
     pub inside : request.cell < cells_of (levels e)
     pub took : calls ≡ taking (Some request)
@@ -50,10 +50,10 @@ module _ {E : Type 0} (leads : E → List Event → List Asked → E → Type 0)
 
   -- A serving: its events and its call of the queue, by what became of it.
   abbrev pub IsServing : E → Served → List Event → List Asked → E → Type 0
-  IsServing e Idle events calls e' = ServesNone e events calls e'
-  IsServing e Held events calls e' = ServesCell e false events calls e'
-  IsServing e Loaded events calls e' = ServesCell e true events calls e'
-  IsServing e (Refused err) events calls e' = ServesRefused e err events calls e'
+  IsServing e Idle events calls e' = IsIdleServing e events calls e'
+  IsServing e Held events calls e' = IsGrantedServing e false events calls e'
+  IsServing e Loaded events calls e' = IsGrantedServing e true events calls e'
+  IsServing e (Refused err) events calls e' = IsRefusedServing e err events calls e'
 
   -- servings one after another
   abbrev pub AreServings : E → List Served → List Event → List Asked → E → Type 0
@@ -90,7 +90,7 @@ pub record IsWhole (count : ℕ) (servings : List Served) : Type 0 where
   pub all : length servings ≡ count
 
 -- Fewer requests were served, and then this serving ended the fetch.
-pub record EndsWith (last : Served) (count : ℕ) (servings : List Served) : Type 0 where
+pub record IsEndedBy (last : Served) (count : ℕ) (servings : List Served) : Type 0 where
   pub before : List Served
   pub served : IsTrue (list_all goes_on before)
   pub fewer : length before < count
@@ -98,8 +98,8 @@ pub record EndsWith (last : Served) (count : ℕ) (servings : List Served) : Typ
 
 -- The servings of a fetch of so many requests, by its answer: it ends early where the queue has no more, or for want of memory.
 abbrev pub IsAnswer : {X : Type 0} → ℕ → List Served → Result Fetched X → Type 0
-IsAnswer count servings (Ok fetched) = (fetched ≡ counts_of servings) × (IsWhole count servings ⊎ EndsWith Idle count servings)
-IsAnswer count servings (Err memory) = EndsWith (Refused refusal.Memory) count servings
+IsAnswer count servings (Ok fetched) = (fetched ≡ counts_of servings) × (IsWhole count servings ⊎ IsEndedBy Idle count servings)
+IsAnswer count servings (Err memory) = IsEndedBy (Refused refusal.Memory) count servings
 
 module _ {E : Type 0} (leads : E → List Event → List Asked → E → Type 0) (levels : E → List Level) (number : E → ℕ) (caused : E → E → ℕ → AcquireErr → Type 0) where
   -- A fetch of so many requests: its servings lead from one moment to another.

@@ -2,7 +2,14 @@
 #![tactic(auto)]
 
 mod fetched;
+mod fetching;
 mod served;
+mod serving;
 
 pub use fetched::Fetched;
+pub use fetching::{Memory, serve_up_to};
 pub use served::Served;
+pub use serving::serve_one;
+
+#[cfg(test)]
+mod tests;

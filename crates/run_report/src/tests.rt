@@ -32,11 +32,7 @@ fn malformed(edited: bool, err: BlockErr) -> Reply {
 }
 
 /// Compares the lines of replies.
-fn expect_lines(
-    rt: &impl Abort,
-    alloc: Global,
-    cases: &[(Reply, &str)],
-) -> Result<(), AllocError> {
+fn expect_lines(rt: &impl Abort, alloc: Global, cases: &[(Reply, &str)]) -> Result<(), AllocError> {
     for (reply, text) in cases {
         let line = format!(in alloc; "{reply}")?;
         assert_eq!(rt; line.as_str(), *text);
@@ -64,8 +60,14 @@ fn lines_of_what_was_done(rt: HostRuntime) -> Result<(), Fail> {
     let cases = [
         (reply(Answer::Value(9)), "0.0.1 value 9"),
         (reply(Answer::Done), "0.0.1 done"),
-        (reply(Answer::Frame(complete)), "0.0.1 frame level 0 complete"),
-        (reply(Answer::Frame(partial)), "0.0.1 frame level 1 partial 12"),
+        (
+            reply(Answer::Frame(complete)),
+            "0.0.1 frame level 0 complete",
+        ),
+        (
+            reply(Answer::Frame(partial)),
+            "0.0.1 frame level 1 partial 12",
+        ),
         (reply(fetched), "0.0.1 fetched 2 held 1 refused 3"),
     ];
     expect_lines(&rt, rt.alloc(), &cases)?;
@@ -230,10 +232,7 @@ fn lines_of_datasets_that_are_refused(rt: HostRuntime) -> Result<(), Fail> {
 fn lines_of_grids_that_are_refused(rt: HostRuntime) -> Result<(), Fail> {
     let large = GridErr::CellTooLarge { voxels: 4194304 };
     for (err, text) in [
-        (
-            GridErr::ZeroSide { axis: 0 },
-            "dataset grid zero-side 0\n",
-        ),
+        (GridErr::ZeroSide { axis: 0 }, "dataset grid zero-side 0\n"),
         (large, "dataset grid cell-too-large 4194304\n"),
     ] {
         expect_stop(&rt, rt.alloc(), Stop::from(err), 4, text)?;

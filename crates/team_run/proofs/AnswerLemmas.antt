@@ -1,11 +1,14 @@
 -- What commands answer, from what was done.
-use Rattle.std.proofs.Common.{◌≡◌, ℕ, List, [], ◌∷◌, ◌++◌, true, false, refl, subst}
-use Rattle.std.specs.Prelude.{Ok, Err}
+use Rattle.std.proofs.Common.{◌≡◌, ◌∙◌, ℕ, List, [], ◌∷◌, ◌++◌, true, false, refl, subst}
+use Rattle.std.specs.Prelude.{Result, Ok, Err}
 use Rattle.std.proofs.lemmas.List.{append-nil}
 use Rattle.arr_history.specs.declared.event.Event.{Event}
 use Rattle.cell_file.specs.declared.errors.AcquireErr.{AcquireErr}
 use Rattle.cell_file.specs.declared.errors.CellErr.{CellErr}
 use Rattle.cell_file.specs.declared.errors.CellErr.TheVariants as cell_err
+use Rattle.fetchers.specs.declared.fetched.Fetched.{Fetched}
+use Rattle.fetchers.specs.declared.served.Served.{Served}
+use Rattle.fetchers.specs.Servings.{IsAnswer}
 use Rattle.hier_paint.specs.Frames.{IsFrame, IsCutOff}
 use Rattle.run_report.specs.declared.reply.Answer.{Answer}
 use Rattle.run_report.specs.declared.reply.Answer.TheVariants as answer
@@ -23,6 +26,7 @@ use Rattle.sole_cache.specs.Pieces.{IsGet, IsSet, IsCellCaused}
 use Rattle.view_script.specs.declared.command.Command.TheVariants as command
 use Rattle.volatile_cell.specs.Asked.{Asked}
 use Rattle.team_run.specs.Desk.{Desk, DeskLeads, IsDeskRefusal, desk, levels_at}
+use Rattle.team_run.specs.Fetches.{AreDeskServings, fetch_answer}
 use Rattle.team_run.specs.Serve.{Answers, IsGot, IsPut, refusal_in}
 use Rattle.team_run.specs.Trace.{Trace}
 use Rattle.team_run.specs.Views.{HasLevel, LacksLevel}
@@ -96,3 +100,20 @@ module _ (a b : Desk) (viewer : ℕ) (view : View) (shot : Shot) where
     served = (shot, refl, refl, refl, record { exists = exists; hidden = hidden; cut = cut; events_are = refl; calls_are = refl });
     leads = subst (λ (calls : List Asked). DeskLeads a (cut.events ++ cut.piece) calls b) (append-nil cut.calls) (desk_on a cut.between b cut.events cut.piece cut.calls [] cut.led cut.refused);
   }
+
+-- a fetch, from its servings and what its result tells
+answer_as : {X Y : Type 0} (y : Y) (count : ℕ) (servings : List Served) (result : Result Fetched X) → IsAnswer count servings result
+    → (r : Result Fetched Y) × IsAnswer count servings r × (fetch_answer result ≡ fetch_answer r)
+answer_as y count servings (Ok fetched) h = (Ok fetched, h, refl)
+answer_as y count servings (Err memory) h = (Err y, h, refl)
+
+pub fetch_answers : {X : Type 0} (a b : Desk) (viewer count : ℕ) (told : Answer) (result : Result Fetched X) (servings : List Served) (events : List Event) (calls : List Asked) → IsAnswer count servings result
+    → told ≡ fetch_answer result → DeskLeads a events calls b → AreDeskServings a servings events calls b → Answers a viewer (command.Fetch count) told [] b
+fetch_answers a b viewer count told result servings events calls answered is leads are =
+    let same = answer_as (tt {0}) count servings result answered in
+    record {
+      trace = record { events = events; calls = calls; shots = []; servings = servings };
+      shots_are = refl;
+      served = (refl, record { are = are; result = same.0; answer = same.1; told_is = is ∙ same.2 });
+      leads = leads;
+    }

@@ -1,6 +1,7 @@
 -- What led from one moment of eyes to another leads from one desk to another.
-use Rattle.std.proofs.Common.{◌≡◌, ◌∙◌, ℕ, ◌-◌, nat_lt, List, [], ◌∷◌, ◌++◌, length, map, replicate, refl, sym, ap, subst, arith, Option, Some, None, true, false, Bool, cond, Result, Ok, Err}
+use Rattle.std.proofs.Common.{◌≡◌, ◌∙◌, ℕ, ◌-◌, ◌<◌, nat_lt, List, [], ◌∷◌, ◌++◌, length, map, replicate, refl, sym, ap, subst, arith, Option, Some, None, true, false, Bool, cond, Result, Ok, Err}
 use Rattle.arr_history.specs.declared.event.Event.{Event}
+use Rattle.arr_history.specs.declared.event.Event.TheVariants as event
 use Rattle.cell_grid.specs.Pyramid.{cells_of}
 use Rattle.cell_grid.specs.declared.level.Level.{Level}
 use Rattle.fetch_queue.specs.declared.request.Request.{Request}
@@ -15,11 +16,14 @@ use Rattle.team_run.specs.Desk.{Desk, DeskLeads, IsReady, desk}
 use Rattle.std.proofs.lemmas.Grind.{common_steps}
 use Rattle.std.specs.Result.{IfErr, OnOk}
 use Rattle.cell_file.specs.declared.errors.AcquireErr.{AcquireErr}
+use Rattle.fetchers.specs.declared.served.Served.{Served}
+use Rattle.fetchers.specs.declared.served.Served.TheVariants as served
+use Rattle.fetchers.specs.Servings.{IsGrantedServing, IsServing, AreServings}
 use Rattle.hier_paint.specs.Frames.{IsFrame, IsCutOff, IsVisitedTo, KeepsRule}
 use Rattle.scale_pick.specs.declared.painted.Painted.{Painted}
 use Rattle.scale_pick.specs.declared.view.View.{View}
 use Rattle.scale_pick.specs.Picture.{Pixels}
-use Rattle.volatile_cell.specs.Pieces.{IsRefused}
+use Rattle.volatile_cell.specs.Pieces.{IsGranted, IsRefused}
 
 -- A queue is for as many viewers, cells and priorities as another.
 record SameShape (q q' : Queue) : Type 0 where
@@ -117,3 +121,40 @@ module _ {E : Type 0} (leads : E → List Event → List Asked → E → Type 0)
     look = subst (λ k. IsRefused k h.cell err h.piece) zero h.look;
     cause = causes h.between e' h.cell err h.cause;
   }
+
+module _ {E F : Type 0} (leads : E → List Event → List Asked → E → Type 0) (levels : E → List Level) (number : E → ℕ) (caused : E → E → ℕ → AcquireErr → Type 0)
+    (leads' : F → List Event → List Asked → F → Type 0) (levels' : F → List Level) (caused' : F → F → ℕ → AcquireErr → Type 0) (f : E → F)
+    (moves : (a b : E) (p : List Event) (u : List Asked) → leads a p u b → leads' (f a) p u (f b)) (causes : (a b : E) (cell : ℕ) (err : AcquireErr) → caused a b cell err → caused' (f a) (f b) cell err)
+    (same_levels : (e : E) → levels e ≡ levels' (f e)) (zero : (e : E) → number e ≡ 0) where
+  granted_as : (e e' : E) (loaded : Bool) (events : List Event) (calls : List Asked) → IsGrantedServing leads levels number caused e loaded events calls e' → IsGrantedServing leads' levels' (λ _. 0) caused' (f e) loaded events calls (f e')
+  granted_as e e' loaded events calls h = record {
+    request = h.request;
+    inside = subst (λ (ls : List Level). h.request.cell < cells_of ls) (same_levels e) h.inside;
+    took = h.took;
+    piece = h.piece;
+    granted = subst (λ k. IsGranted k h.request.cell loaded h.piece) (zero e) h.granted;
+    given_back = subst (λ k. events ≡ h.piece ++ event.Unpin k h.request.cell ∷ []) (zero e) h.given_back;
+    led = moves e e' events calls h.led;
+  }
+
+  -- a serving, as another relation tells it, and servings one after another
+  serving_as : (e e' : E) (served : Served) (events : List Event) (calls : List Asked) → IsServing leads levels number caused e served events calls e' → IsServing leads' levels' (λ _. 0) caused' (f e) served events calls (f e')
+  serving_as e e' served.Idle events calls h = record { took = h.took; none = h.none; led = moves e e' events calls h.led }
+  serving_as e e' served.Held events calls h = granted_as e e' false events calls h
+  serving_as e e' served.Loaded events calls h = granted_as e e' true events calls h
+  serving_as e e' (served.Refused err) events calls h = record {
+    request = h.request;
+    inside = subst (λ (ls : List Level). h.request.cell < cells_of ls) (same_levels e) h.inside;
+    took = h.took;
+    mid = f h.mid;
+    taken = moves e h.mid [] calls h.taken;
+    tried = moves h.mid e' events [] h.tried;
+    refused = subst (λ k. IsRefused k h.request.cell err events) (zero e) h.refused;
+    cause = causes h.mid e' h.request.cell err h.cause;
+  }
+
+  pub servings_as : (e e' : E) (servings : List Served) (events : List Event) (calls : List Asked) → AreServings leads levels number caused e servings events calls e'
+      → AreServings leads' levels' (λ _. 0) caused' (f e) servings events calls (f e')
+  servings_as e e' [] events calls h = (h.0, h.1, ap f h.2)
+  servings_as e e' (s ∷ servings) events calls (mid, first, rest, asked, more, one, others, split, asks) =
+      (f mid, first, rest, asked, more, serving_as e mid s first asked one, servings_as mid e' servings rest more others, split, asks)

@@ -1,8 +1,9 @@
 -- What a fetch does, by its answer.
-use Rattle.std.specs.Prelude.{ℕ, List, Ok, Err}
+use Rattle.std.specs.Prelude.{◌≡◌, ℕ, List, Result, Ok, Err}
 use Rattle.arr_history.specs.declared.event.Event.{Event}
 use Rattle.cell_file.specs.declared.errors.AcquireErr.TheVariants as cause
 use Rattle.fetchers.specs.declared.served.Served.{Served}
+use Rattle.fetchers.specs.declared.fetched.Fetched.{Fetched}
 use Rattle.fetchers.specs.Servings.{AreServings, IsAnswer}
 use Rattle.run_report.specs.declared.reply.Answer.{Answer}
 use Rattle.run_report.specs.declared.reply.Answer.TheVariants as answer
@@ -14,8 +15,14 @@ use Rattle.team_run.specs.Desk.{Desk, DeskLeads, IsDeskRefusal, levels_at}
 abbrev pub AreDeskServings : Desk → List Served → List Event → List Asked → Desk → Type 0
 AreDeskServings old servings events calls new = AreServings DeskLeads levels_at (λ _. 0) IsDeskRefusal old servings events calls new
 
-abbrev pub IsFetched : Desk → ℕ → Answer → List Served → List Event → List Asked → Desk → Type 0
-IsFetched old count (answer.Fetched loaded held refused) servings events calls new =
-    IsAnswer {X = Unit {0}} count servings (Ok (record { loaded = loaded; held = held; refused = refused })) × AreDeskServings old servings events calls new
-IsFetched old count (answer.Refused (refusal.Acquire cause.Memory)) servings events calls new = IsAnswer {X = Unit {0}} count servings (Err (tt {0})) × AreDeskServings old servings events calls new
-IsFetched old count other servings events calls new = ⊥
+-- the answer that tells what a fetch came to
+abbrev pub fetch_answer : {X : Type 0} → Result Fetched X → Answer
+fetch_answer (Ok fetched) = answer.Fetched fetched.loaded fetched.held fetched.refused
+fetch_answer (Err memory) = answer.Refused (refusal.Acquire cause.Memory)
+
+-- The servings of a fetch of so many requests, and its answer, which counts them.
+pub record IsFetched (old : Desk) (count : ℕ) (told : Answer) (servings : List Served) (events : List Event) (calls : List Asked) (new : Desk) : Type 0 where
+  pub are : AreDeskServings old servings events calls new
+  pub result : Result Fetched (Unit {0})
+  pub answer : IsAnswer count servings result
+  pub told_is : told ≡ fetch_answer result

@@ -1,14 +1,18 @@
 // Fetches.
-ghost use Rattle.std.specs.Prelude.{◌<◌, []};
+ghost use Rattle.std.specs.Prelude.{◌≡◌, ◌<◌, []};
 ghost use Rattle.sole_cache.specs.Value.{by};
 ghost use Rattle.team_run.specs.Desk.{IsReady, desk};
+ghost use Rattle.team_run.specs.Fetches.{fetch_answer};
 ghost use Rattle.team_run.specs.Serve.{Answers};
 ghost use Rattle.view_script.specs.declared.command.Command.TheVariants.{Fetch};
 
+use cell_file::AcquireErr;
 use cell_store::Store;
 use fetch_queue::Queues;
-use run_report::Answer;
+use fetchers::{Fetched, Memory, serve_up_to};
+use run_report::{Answer, Refusal};
 use sole_cache::SoleCache;
+use volatile_cell::SoleEyes;
 
 /// Serves so many requests of the queue, or fewer where it has no more, and counts them.
 pub fn fetch<S: Store>(
@@ -22,5 +26,23 @@ pub fn fetch<S: Store>(
     ensures answers { Answers (desk (by S.contents cache.old) queue.old) viewer (Fetch count) result [] (desk (by S.contents cache.new) queue.new) }
     ensures ready { IsReady (desk (by S.contents cache.new) queue.new) }
 {
-    Answer::Done
+    let mut eyes = SoleEyes::new(cache, queue, viewer);
+    answer_of(serve_up_to(&mut eyes, count))
+}
+
+fn answer_of(fetched: Result<Fetched, Memory>) -> Answer
+    ensures { result ≡ fetch_answer fetched }
+{
+    match fetched {
+        Ok(Fetched {
+            loaded,
+            held,
+            refused,
+        }) => Answer::Fetched {
+            loaded,
+            held,
+            refused,
+        },
+        Err(_) => Answer::Refused(Refusal::Acquire(AcquireErr::Memory)),
+    }
 }

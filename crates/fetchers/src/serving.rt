@@ -1,0 +1,27 @@
+// The serving of a request.
+ghost use Rattle.std.specs.Prelude.{◌≡◌, List};
+ghost use Rattle.arr_history.specs.declared.event.Event.{Event};
+ghost use Rattle.volatile_cell.specs.Asked.{Asked};
+ghost use Rattle.fetchers.specs.Servings.{IsServing};
+
+use crate::served::Served;
+use volatile_cell::Eyes;
+
+/// Takes the next request, and acquires and releases its cell. It takes no memory of its own.
+pub fn serve_one<E: Eyes>(eyes: &mut E) -> Served
+    requires free { E.held eyes.old ≡ 0 }
+    ensures served { (events : List Event) × (calls : List Asked) × IsServing E.leads E.levels E.number E.caused eyes.old result events calls eyes.new }
+    ensures free { E.held eyes.new ≡ 0 }
+{
+    let Some(request) = eyes.next() else {
+        return Served::Idle;
+    };
+    match eyes.acquire(request.cell) {
+        Err(refusal) => Served::Refused(refusal),
+        Ok(handle) => {
+            let loaded = eyes.loaded(&handle);
+            eyes.release(handle);
+            if loaded { Served::Loaded } else { Served::Held }
+        }
+    }
+}
