@@ -3,3 +3,7 @@ pub mod AnswerLemmas
 pub mod ServeLemmas
 pub mod PlanLemmas
 pub mod VolumeLemmas
+pub mod Unwritten
+pub mod CalmEvents
+pub mod Histories
+pub mod Faults
