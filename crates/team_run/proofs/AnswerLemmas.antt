@@ -18,7 +18,7 @@ use Rattle.scale_pick.specs.declared.painted.Painted.{Painted}
 use Rattle.scale_pick.specs.declared.strategy.Strategy.TheVariants.{Blocking}
 use Rattle.scale_pick.specs.declared.view.View.{View}
 use Rattle.scale_pick.specs.Painted.{painted_of, IsComplete}
-use Rattle.scale_pick.specs.Picture.{Pixels}
+use Rattle.scale_pick.specs.Picture.{IsFilled}
 use Rattle.scale_pick.specs.Wanted.{wanted_level}
 use Rattle.sole_cache.specs.Cached.{Cached}
 use Rattle.sole_cache.specs.Moves.{Runs}
@@ -82,13 +82,13 @@ module _ (a b : Desk) (viewer : ℕ) (view : View) (shot : Shot) where
     leads = desk_stays a;
   }
 
-  pub frame_answers : (painted : Painted) → HasLevel (levels_at a) view → shot.shown ≡ true → painted ≡ painted_of (wanted_level (levels_at a) view) shot.picture
+  pub frame_answers : (painted : Painted) → HasLevel (levels_at a) view → shot.shown ≡ true → IsFilled shot.picture → painted ≡ painted_of (wanted_level (levels_at a) view) shot.picture
       → (view.strategy ≡ Blocking → IsComplete (wanted_level (levels_at a) view) shot.picture) → IsFrame DeskLeads levels_at (λ _. 0) (λ _. viewer) a b view shot.picture
       → Answers a viewer (command.View shot.name view) (answer.Frame painted) (shot ∷ []) b
-  frame_answers painted exists shown told blocking frame = record {
+  frame_answers painted exists shown filled told blocking frame = record {
     trace = record { events = frame.events; calls = frame.calls; shots = shot ∷ []; servings = [] };
     shots_are = refl;
-    served = (shot, refl, refl, refl, record { exists = exists; shown = shown; told = told; blocking = blocking; frame = frame; events_are = refl; calls_are = refl });
+    served = (shot, refl, refl, refl, record { exists = exists; shown = shown; filled = filled; told = told; blocking = blocking; frame = frame; events_are = refl; calls_are = refl });
     leads = frame.led;
   }
 

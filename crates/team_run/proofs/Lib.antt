@@ -7,3 +7,6 @@ pub mod Unwritten
 pub mod CalmEvents
 pub mod Histories
 pub mod Faults
+pub mod PlainFrames
+pub mod PlainRuns
+pub mod Completed

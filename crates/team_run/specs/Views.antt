@@ -12,6 +12,7 @@ use Rattle.scale_pick.specs.declared.painted.Painted.{Painted}
 use Rattle.scale_pick.specs.declared.strategy.Strategy.TheVariants.{Blocking}
 use Rattle.scale_pick.specs.declared.view.View.{View}
 use Rattle.scale_pick.specs.Painted.{painted_of, IsComplete}
+use Rattle.scale_pick.specs.Picture.{IsFilled}
 use Rattle.scale_pick.specs.Wanted.{wanted_level}
 use Rattle.volatile_cell.specs.Asked.{Asked}
 use Rattle.team_run.specs.Desk.{Desk, DeskLeads, IsDeskRefusal, levels_at}
@@ -28,6 +29,7 @@ module _ (old : Desk) (viewer : ℕ) (view : View) (shot : Shot) (events : List 
   pub record Paints (painted : Painted) (new : Desk) : Type 0 where
     pub exists : HasLevel (levels_at old) view
     pub shown : shot.shown ≡ true
+    pub filled : IsFilled shot.picture
     pub told : painted ≡ painted_of (wanted_level (levels_at old) view) shot.picture
     pub blocking : view.strategy ≡ Blocking → IsComplete (wanted_level (levels_at old) view) shot.picture
     pub frame : IsFrame DeskLeads levels_at (λ _. 0) (λ _. viewer) old new view shot.picture

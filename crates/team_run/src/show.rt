@@ -4,6 +4,7 @@ ghost use Rattle.std.specs.Option.{option_to_list};
 ghost use Rattle.hier_paint.specs.Frames.{IsFrame, IsCutOff};
 ghost use Rattle.scale_pick.specs.declared.strategy.Strategy.TheVariants.{Blocking};
 ghost use Rattle.scale_pick.specs.Painted.{painted_of, IsComplete};
+ghost use Rattle.scale_pick.specs.Picture.{IsFilled};
 ghost use Rattle.scale_pick.specs.Wanted.{wanted_level};
 ghost use Rattle.sole_cache.specs.Value.{by};
 ghost use Rattle.team_run.specs.Desk.{IsReady, DeskLeads, IsDeskRefusal, desk, levels_at};
@@ -89,6 +90,7 @@ fn frame<S: Store>(
     requires limits { IsViewWithinLimits view.now }
     requires sides { HasSides view.now picture.old }
     requires exists { HasLevel cache.old.levels view.now }
+    ensures filled { IsFilled picture.new }
     ensures painted { IfOk result (λ painted. painted ≡ painted_of (wanted_level cache.old.levels view.now) picture.new) }
     ensures blocking { view.now.strategy ≡ Blocking → OnOk result (IsComplete (wanted_level cache.old.levels view.now) picture.new) }
     ensures frame { OnOk result (IsFrame DeskLeads levels_at (λ _. 0) (λ _. viewer) (desk (by S.contents cache.old) queue.old) (desk (by S.contents cache.new) queue.new) view.now picture.new) }
@@ -96,5 +98,7 @@ fn frame<S: Store>(
     ensures ready { IsReady (desk (by S.contents cache.new) queue.new) }
 {
     let mut eyes = SoleEyes::new(cache, queue, viewer);
-    paint(&mut eyes, view, picture)
+    let painted = paint(&mut eyes, view, picture);
+    let _width = picture.width();
+    painted
 }

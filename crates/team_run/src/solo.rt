@@ -1,6 +1,7 @@
 // A run on one thread.
 ghost use Rattle.std.specs.Prelude.{◌≡◌, ◌≤◌, All, Err, IfOk, IsOk, [], count_by, length, map, vec_capacity, vec_len};
 ghost use Rattle.arr_history.specs.Tally.{tally_of};
+ghost use Rattle.cell_grid.specs.Pyramid.{IsPyramid};
 ghost use Rattle.sole_cache.specs.Value.{by};
 ghost use Rattle.view_script.specs.Script.{IsScript};
 ghost use Rattle.team_run.specs.Desk.{IsReady, desk};
@@ -17,7 +18,6 @@ use cell_grid::Geometry;
 use cell_store::Store;
 use plain_data::Items;
 use run_report::Report;
-use scale_pick::pictures_show_moments;
 use sole_cache::{SoleCache, moves_compose};
 use std::alloc::Global;
 use view_script::Script;
@@ -82,7 +82,7 @@ fn run<S: Store>(mut cache: SoleCache<S>, stage: Stage) -> Ran<S>
     requires no_shots { stage.shots.items ≡ [] }
     requires shot_room { count_by (λ d. is_view d.task) stage.plan.items ≤ vec_capacity stage.shots }
     requires tally { (by S.contents cache).tally ≡ tally_of [] [] }
-    requires few_levels { length cache.levels ≤ 8 }
+    requires pyramid { IsPyramid cache.levels }
     ensures completes { IfOk result.report (λ report. Completes (desk (by S.contents cache) stage.queue) (map numbered stage.plan.items) (map S.contents result.stores.items) report) }
     ensures ok { IsOk result.report }
 {
@@ -100,7 +100,6 @@ fn run<S: Store>(mut cache: SoleCache<S>, stage: Stage) -> Ran<S>
     } = cache.shut();
     moves_compose();
     tallies_grow();
-    pictures_show_moments();
     let report = Report::new(Items::from_vec(replies), Items::from_vec(shots), tally, unsaved);
     Ran {
         report: Ok(report),

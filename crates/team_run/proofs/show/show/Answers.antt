@@ -17,7 +17,7 @@ returns-in-Ok-clause-answers g c =
     let before = desk (by g.S.Store.contents c.args.cache.now) c.args.queue.now in
     let after = desk (by g.S.Store.contents c.frame.new.cache) c.frame.new.queue in
     rw (c.outcome-in-Ok.ensures.answer, c.outcome-in-Ok.ensures.shot)
-    (frame_answers before after c.args.viewer c.args.view (record { name = c.args.name; picture = c.frame.new.picture; shown = true }) c.in-Ok.painted (subst (λ (levels : List Level). HasLevel levels c.args.view) c.geometry.ensures (c.if-lacks_level.ensures.has refl)) refl
+    (frame_answers before after c.args.viewer c.args.view (record { name = c.args.name; picture = c.frame.new.picture; shown = true }) c.in-Ok.painted (subst (λ (levels : List Level). HasLevel levels c.args.view) c.geometry.ensures (c.if-lacks_level.ensures.has refl)) refl c.in-Ok.ensures.filled
     c.in-Ok.ensures.painted c.in-Ok.ensures.blocking c.in-Ok.ensures.frame)
 
 pub returns-in-Err-clause-answers : goal.returns-in-Err-clause-answers

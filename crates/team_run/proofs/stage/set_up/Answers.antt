@@ -12,6 +12,7 @@ new-requires-clause-some_cells c = rw (c.cells.ensures.count) (some_cells _ c.ce
 
 pub returns : goal.returns
 returns c = record {
+  pyramid = c.cells.ensures.pyramid;
   queue = c.in_ok-queue.ensures ∙ rw (c.cells.ensures.count, c.levels.ensures.count) refl;
   plan = subst (λ (top : Option ℕ). map numbered c.in_ok-plan.plan.items ≡ commands_of_phases (map (map (map (ranged top))) c.args.script.phases)) c.top_for-top.ensures.top c.in_ok-plan.ensures.planned;
   due = c.in_ok-plan.ensures.due;
