@@ -1,11 +1,11 @@
 -- The events of frames and of servings are of pass 0, and write nothing.
-use Rattle.std.proofs.Common.{◌≡◌, ◌∙◌, ◌⊎◌, inl, inr, ℕ, zero, suc, ◌==◌, ◌&&◌, Bool, true, false, IsTrue, List, [], ◌∷◌, ◌++◌, replicate, Option, None, Some, refl, sym, ap, subst, arith}
+use Rattle.std.proofs.Common.{◌≡◌, ◌∙◌, inl, inr, ℕ, zero, suc, ◌==◌, ◌&&◌, Bool, true, false, List, [], ◌∷◌, ◌++◌, Option, None, Some, refl, sym, ap, subst, arith}
 use Rattle.std.specs.Bool.{MatchBool}
-use Rattle.std.specs.List.{list_all, filter}
+use Rattle.std.specs.List.{list_all}
 use Rattle.std.proofs.lemmas.List.Folds.{list_all-append}
 use Rattle.arr_history.specs.declared.event.Event.{Event}
 use Rattle.arr_history.specs.declared.event.Event.TheVariants as event
-use Rattle.arr_history.specs.History.{after, mine, pass_of}
+use Rattle.arr_history.specs.History.{mine, pass_of}
 use Rattle.arr_history.specs.Next.{next}
 use Rattle.arr_history.specs.State.{State}
 use Rattle.cell_file.specs.declared.errors.AcquireErr.{AcquireErr}

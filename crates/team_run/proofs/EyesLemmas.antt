@@ -1,5 +1,5 @@
 -- What led from one moment of eyes to another leads from one desk to another.
-use Rattle.std.proofs.Common.{◌≡◌, ◌∙◌, ℕ, ◌-◌, ◌<◌, nat_lt, List, [], ◌∷◌, ◌++◌, length, map, replicate, refl, sym, ap, subst, arith, Option, Some, None, true, false, Bool, cond, Result, Ok, Err}
+use Rattle.std.proofs.Common.{◌≡◌, ◌∙◌, ℕ, ◌<◌, nat_lt, List, [], ◌∷◌, ◌++◌, length, refl, sym, ap, subst, arith, Option, Some, None, true, false, Bool, cond, Result, Ok, Err}
 use Rattle.arr_history.specs.declared.event.Event.{Event}
 use Rattle.arr_history.specs.declared.event.Event.TheVariants as event
 use Rattle.cell_grid.specs.Pyramid.{cells_of}
@@ -10,7 +10,6 @@ use Rattle.sole_cache.specs.Cached.{Cached, handles_out}
 use Rattle.volatile_cell.specs.declared.queue_call.QueueCall.{QueueCall}
 use Rattle.volatile_cell.specs.declared.queue_call.QueueCall.TheVariants as call
 use Rattle.volatile_cell.specs.Asked.{Asked, AskedFrom, after_call, is_put}
-use Rattle.volatile_cell.specs.SoleEyes.{IsQueueFor}
 use Rattle.volatile_cell.specs.SoleLaws.{leads_nowhere, leads_after, asked_after}
 use Rattle.team_run.specs.Desk.{Desk, DeskLeads, IsReady, desk}
 use Rattle.std.proofs.lemmas.Grind.{common_steps}

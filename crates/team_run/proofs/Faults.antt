@@ -1,5 +1,5 @@
 -- One fault licenses one answer.
-use Rattle.std.proofs.Common.{◌≡◌, ◌∙◌, ◌+◌, ℕ, cond, Bool, true, false, List, [], ◌∷◌, ◌++◌, refl, sym, ap, subst, arith}
+use Rattle.std.proofs.Common.{◌≡◌, ◌∙◌, ◌+◌, ℕ, cond, Bool, false, List, [], ◌∷◌, ◌++◌, refl, sym, ap, subst, arith}
 use Rattle.std.specs.List.{count_by}
 use Rattle.std.specs.List.Sorted.{IsPermutation}
 use Rattle.std.specs.declared.result.Result.TheVariants.{Ok, Err}
@@ -12,7 +12,6 @@ use Rattle.arr_history.specs.declared.event.Event.{Event}
 use Rattle.arr_history.proofs.Counts.{count_by-append}
 use Rattle.cell_file.specs.declared.errors.AcquireErr.{AcquireErr}
 use Rattle.cell_file.specs.declared.errors.AcquireErr.TheVariants as cause
-use Rattle.cell_store.specs.Store.{Contents}
 use Rattle.fetchers.specs.declared.served.Served.{Served}
 use Rattle.fetchers.specs.declared.served.Served.TheVariants as served
 use Rattle.fetchers.specs.declared.fetched.Fetched.{Fetched}

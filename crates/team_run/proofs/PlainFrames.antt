@@ -1,13 +1,12 @@
 -- The pictures of a cache are those of plain arrays.
-use Rattle.std.proofs.Common.{◌≡◌, ◌∙◌, ◌⊎◌, inl, inr, ℕ, ◌+◌, ◌-◌, ◌*◌, ◌<◌, ◌≤◌, IsTrue, List, [], ◌∷◌, IfSome, length, Option, Some, None, position, unwrap_or, refl, sym, ap, subst, arith}
+use Rattle.std.proofs.Common.{◌≡◌, ◌∙◌, ◌⊎◌, inl, inr, ℕ, ◌-◌, ◌*◌, ◌<◌, ◌≤◌, IsTrue, List, [], ◌∷◌, IfSome, length, Option, Some, None, position, unwrap_or, refl, sym, ap, subst, arith}
 use Rattle.std.specs.Prelude.{slice_index}
 use Rattle.std.proofs.lemmas.List.Quantifiers.{position-Some}
 use Rattle.std.proofs.lemmas.Nat.{mul-add-lt}
 use Rattle.arr_history.specs.declared.event.Event.{Event}
-use Rattle.arr_history.specs.History.{after, AreLegal, mine}
+use Rattle.arr_history.specs.History.{AreLegal}
 use Rattle.arr_history.specs.Shape.{Shape, IsSameShape}
 use Rattle.cell_grid.specs.declared.level.Level.{Level}
-use Rattle.cell_grid.specs.Pyramid.{IsPyramid}
 use Rattle.cell_grid.proofs.OneToOne.{one_to_one}
 use Rattle.scale_pick.specs.declared.painted.Painted.{Painted}
 use Rattle.scale_pick.specs.declared.view.View.{View}
@@ -51,12 +50,17 @@ module _ (b : Shape) (a : Cached) (levels : List Level) (view : View) (events : 
     where
       go : ShowsMoment levels view (shape_of a) (state_of a) events x y level value → ShowsPlain levels b.is_told arrays view x y level value
       go (inl dark) = inl dark
-      go (inr (cell, at, number, voxel, had, shade)) = inr (cell, at, voxel, λ told.
-          let range = (one_to_one levels).in_range level voxel.coordinates cell at voxel.voxel in
-          let before = calm_unwritten had.before (calm_before had.before had.rest (subst AreCalm had.split calm)) (state_of a) in
-          let inside = subst (λ n. cell < n) (sym shape.cells) (subst (λ (l : List Level). cell < (shape_of (record a { levels = l })).cells) (sym is) range.0) in
-          let few = subst (λ n. at < n) (sym (shape.voxels cell)) (subst (λ (l : List Level). at < (shape_of (record a { levels = l })).voxels cell) (sym is) range.1) in
-          shade ∙ ap (λ n. shown n view.low view.high) (had.had (subst IsTrue (shape.told cell) told) ∙ ap (λ f. f cell at) before ∙ sym (same cell inside told at few)))
+      go (inr (cell, at, number, voxel, had, shade)) = inr (
+        cell,
+        at,
+        voxel,
+        λ told.
+            let range = (one_to_one levels).in_range level voxel.coordinates cell at voxel.voxel in
+            let before = calm_unwritten had.before (calm_before had.before had.rest (subst AreCalm had.split calm)) (state_of a) in
+            let inside = subst (λ n. cell < n) (sym shape.cells) (subst (λ (l : List Level). cell < (shape_of (record a { levels = l })).cells) (sym is) range.0) in
+            let few = subst (λ n. at < n) (sym (shape.voxels cell)) (subst (λ (l : List Level). at < (shape_of (record a { levels = l })).voxels cell) (sym is) range.1) in
+            shade ∙ ap (λ n. shown n view.low view.high) (had.had (subst IsTrue (shape.told cell) told) ∙ ap (λ f. f cell at) before ∙ sym (same cell inside told at few)),
+      )
 
   painted_plain : (wanted x y value mask : ℕ) → IsPainted levels view (notes_of view.strategy events) wanted x y value mask → ShowsPlain levels b.is_told arrays view x y mask value ⊎ ((mask ≡ 255) × (value ≡ 0))
   painted_plain wanted x y value mask (inl s) = inl (pixel_plain x y mask value s.shows)

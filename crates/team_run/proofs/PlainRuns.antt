@@ -121,7 +121,7 @@ module _ (b : Shape) (levels : List Level) (a d : Desk) (arrays : ℕ → ℕ �
   view_plain viewer name view shot shots events calls (answer.Frame painted) one viewed led =
       let calm : AreCalm events = subst AreCalm (sym viewed.events_are) (frame_calm viewer (levels_at a) view shot.picture viewed.frame.events viewed.frame.visited) in
       let painting : IsPainting levels view (notes_of view.strategy events) shot.picture =
-          subst (λ l. IsPainting l view (notes_of view.strategy events) shot.picture) is (subst (λ (e : List Event). IsPainting (levels_at a) view (notes_of view.strategy e) shot.picture) (sym viewed.events_are) viewed.frame.painting) in
+      subst (λ l. IsPainting l view (notes_of view.strategy events) shot.picture) is (subst (λ (e : List Event). IsPainting (levels_at a) view (notes_of view.strategy e) shot.picture) (sym viewed.events_are) viewed.frame.painting) in
       let told : painted ≡ painted_of (wanted_level levels view) shot.picture = subst (λ l. painted ≡ painted_of (wanted_level l view) shot.picture) is viewed.told in
       let exists : HasLevel levels view = subst (λ l. HasLevel l view) is viewed.exists in
       (arrays, ((shot, one, plain_frame b a.cache levels view events arrays shape is same calm led.legal painted shot.picture few some exists viewed.filled painting told, refl), quiet_plain events (calm_unwritten events calm) led))
@@ -130,7 +130,7 @@ module _ (b : Shape) (levels : List Level) (a d : Desk) (arrays : ℕ → ℕ �
   view_plain viewer name view shot shots events calls (answer.Refused (refusal.Acquire err)) one viewed led =
       let cut = viewed.cut in
       let calm : AreCalm events = subst AreCalm (sym viewed.events_are)
-          (both_calm cut.events cut.piece (cut_calm viewer (levels_at a) view shot.picture cut.cell cut.events cut.visited) (refused_calm cut.cell err cut.piece cut.look)) in
+      (both_calm cut.events cut.piece (cut_calm viewer (levels_at a) view shot.picture cut.cell cut.events cut.visited) (refused_calm cut.cell err cut.piece cut.look)) in
       (arrays, (refl, quiet_plain events (calm_unwritten events calm) led))
 
   fetch_plain : {X : Type 0} (count : ℕ) (shots : List Shot) (told : Answer) (result : Result Fetched X) → told ≡ fetch_answer result → AreSame b (state_of d.cache).arrays arrays → Steps (command.Fetch count) told shots

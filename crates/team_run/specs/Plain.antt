@@ -17,10 +17,6 @@ use Rattle.scale_pick.specs.Wanted.{wanted_level}
 use Rattle.view_script.specs.declared.command.Command.{Command}
 use Rattle.view_script.specs.declared.command.Command.TheVariants as command
 use Rattle.view_script.specs.Script.{NumberedCommand}
-use Rattle.team_run.specs.Desk.{Desk, levels_at}
-use Rattle.sole_cache.specs.Cached.{Cached, shape_of, state_of}
-use Rattle.team_run.specs.Serve.{ServesAll}
-use Rattle.team_run.specs.Trace.{Trace}
 
 module _ (levels : List Level) (told : ℕ → Bool) where
   -- a pixel shows its voxel's number at a level, where that is told, or 0 outside the level

@@ -2,7 +2,6 @@
 use Rattle.std.specs.Prelude.{◌≡◌, ℕ, List, [], ◌∷◌, ◌++◌}
 use Rattle.std.specs.declared.result.Result.TheVariants as outcome
 use Rattle.arr_history.specs.declared.event.Event.{Event}
-use Rattle.cell_file.specs.declared.errors.AcquireErr.TheVariants as cause
 use Rattle.cell_file.specs.declared.errors.CellErr.{CellErr}
 use Rattle.cell_file.specs.declared.errors.CellErr.TheVariants as cell_err
 use Rattle.run_report.specs.declared.reply.Answer.{Answer}

@@ -34,11 +34,13 @@ fn answer_of(fetched: Result<Fetched, Memory>) -> Answer
     ensures { result ≡ fetch_answer fetched }
 {
     match fetched {
-        Ok(Fetched {
-            loaded,
-            held,
-            refused,
-        }) => Answer::Fetched {
+        Ok(
+            Fetched {
+                loaded,
+                held,
+                refused,
+            },
+        ) => Answer::Fetched {
             loaded,
             held,
             refused,

@@ -9,9 +9,9 @@ mod show;
 mod solo;
 mod stage;
 mod task;
-mod voxel;
 #[cfg(test)]
 mod tests;
+mod voxel;
 
 pub use ran::{Ran, RunErr};
 pub use solo::solo_run;

@@ -7,9 +7,9 @@ ghost use Rattle.team_run.specs.Serve.{Answers, Adds};
 ghost use Rattle.team_run.specs.Task.{IsDue, IsTaskDue, command_in, numbered, is_view};
 
 use crate::fetch::fetch;
-use crate::voxel::{get, set};
 use crate::show::show;
 use crate::task::{Due, Task};
+use crate::voxel::{get, set};
 use cell_store::Store;
 use fetch_queue::Queues;
 use run_report::{Answer, Reply, Shot};
@@ -101,12 +101,7 @@ fn add_shot(shots: &mut Vec<Shot>, shot: Option<Shot>)
 }
 
 /// Carries out a task for a viewer.
-fn serve<S: Store>(
-    cache: &mut SoleCache<S>,
-    queue: &mut Queues,
-    viewer: u32,
-    task: Task,
-) -> Outcome
+fn serve<S: Store>(cache: &mut SoleCache<S>, queue: &mut Queues, viewer: u32, task: Task) -> Outcome
     requires ready { IsReady (desk (by S.contents cache.old) queue.old) }
     requires due { IsTaskDue viewer task }
     ensures answers { Answers (desk (by S.contents cache.old) queue.old) viewer (command_in task) result.answer (option_to_list result.shot) (desk (by S.contents cache.new) queue.new) }

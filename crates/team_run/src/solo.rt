@@ -100,7 +100,12 @@ fn run<S: Store>(mut cache: SoleCache<S>, stage: Stage) -> Ran<S>
     } = cache.shut();
     moves_compose();
     tallies_grow();
-    let report = Report::new(Items::from_vec(replies), Items::from_vec(shots), tally, unsaved);
+    let report = Report::new(
+        Items::from_vec(replies),
+        Items::from_vec(shots),
+        tally,
+        unsaved,
+    );
     Ran {
         report: Ok(report),
         stores,

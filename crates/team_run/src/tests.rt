@@ -3,6 +3,7 @@ use super::*;
 use cell_file::Keys;
 use cell_grid::{Extent, Geometry, Kind, Level};
 use cell_store::MemStore;
+use hier_paint::Painted;
 use run_report::{Answer, Refusal, Report};
 use std::alloc::Global;
 use std::collections::BTreeMap;
@@ -66,5 +67,51 @@ fn too_few_slots_are_refused(rt: HostRuntime) -> Result<(), Fail> {
     };
     assert_eq!(rt; report.err(), Some(refusal));
     assert_eq!(rt; stores.len(), 1);
+    Ok(())
+}
+
+#[test]
+fn views_ask_and_fetches_load(rt: HostRuntime) -> Result<(), Fail> {
+    let alloc = rt.alloc();
+    let script =
+        b"raw vol uint8 6 2 2 2 2 2\nphase\nactor\nset 0 1 0 0 255\nview a 6 1 0 volatile 1 1 0 0 0 1 0 0 0 0\nfetch 9\nview b 6 1 0 volatile 1 1 0 0 0 1 0 0 0 0\n";
+    let Ran { report, stores } = ran(alloc, script, 3, &rt)?;
+    assert_eq!(rt; stores.len(), 1);
+    match report {
+        Ok(report) => expect_frames(&report, &rt),
+        Err(_) => Err(Fail::new("no report")),
+    }
+}
+
+/// A frame that shows one cell of three, a fetch of the two others, and a frame that shows all.
+fn expect_frames(report: &Report, rt: &impl Abort) -> Result<(), Fail> {
+    let replies = report.replies.as_slice();
+    assert_eq!(rt; replies.len(), 4);
+    let partial = Painted {
+        wanted: 0,
+        complete: false,
+        not_ready: 4,
+    };
+    assert_eq!(rt; replies[1].answer, Answer::Frame(partial));
+    let fetched = Answer::Fetched {
+        loaded: 2,
+        held: 0,
+        refused: 0,
+    };
+    assert_eq!(rt; replies[2].answer, fetched);
+    let whole = Painted {
+        wanted: 0,
+        complete: true,
+        not_ready: 0,
+    };
+    assert_eq!(rt; replies[3].answer, Answer::Frame(whole));
+    let shots = report.shots.as_slice();
+    assert_eq!(rt; shots.len(), 2);
+    assert!(rt; shots[0].shown);
+    assert_eq!(rt;
+        shots[0].picture.mask(),
+        [0, 0, 255, 255, 255, 255].as_slice()
+    );
+    assert_eq!(rt; shots[1].picture.values(), [0, 255, 0, 0, 0, 0].as_slice());
     Ok(())
 }

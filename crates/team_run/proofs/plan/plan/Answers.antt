@@ -1,12 +1,11 @@
 -- One phase more is planned, and at the end all are.
-use Rattle.std.proofs.Common.{◌≡◌, ◌∙◌, ◌+◌, ◌≤◌, ℕ, List, [], ◌∷◌, ◌++◌, All, length, map, sum_by, refl, sym, ap, subst, append_assoc, arith}
+use Rattle.std.proofs.Common.{◌≡◌, ◌∙◌, ◌≤◌, List, [], ◌∷◌, ◌++◌, All, length, sum_by, refl, sym, ap, subst, append_assoc, arith}
 use Rattle.std.proofs.lemmas.List.{append-nil, flat_map_more}
 use Rattle.std.proofs.lemmas.List.Elements.{All-tail}
 use Rattle.std.proofs.lemmas.List.Sums.{sum_by-cons}
 use Rattle.std.specs.List.{enumerate_from, flat_map}
 use Rattle.view_script.specs.declared.command.Command.{Command}
-use Rattle.view_script.specs.Script.{IsWithinLimits, NumberedCommand}
-use Rattle.team_run.specs.Task.{numbered}
+use Rattle.view_script.specs.Script.{IsWithinLimits}
 use Rattle.team_run.proofs.PlanLemmas.{phase_of, phases_are, none_left}
 use Rattle.team_run.proofs.plan.plan.Goals as goal
 
@@ -17,7 +16,7 @@ loop-phase-preserved c =
     let rest = c.next.new.self.iter.rest.items in
     let was = c.loop-phase.invariant in
     let split : enumerate_from c.loop-phase.phase-iterator.count c.loop-phase.phase-iterator.iter.rest.items ≡ (c.in-Some.phase, one) ∷ enumerate_from c.next.new.self.count rest =
-        rw (step.0.0, step.2, step.1) refl in
+    rw (step.0.0, step.2, step.1) refl in
     record {
       can = c.in-Some.ensures.goes.keeps;
       finite = tt;

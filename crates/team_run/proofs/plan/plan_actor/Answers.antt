@@ -1,10 +1,10 @@
 -- One command more is planned, and at the end all are.
-use Rattle.std.proofs.Common.{◌≡◌, ◌∙◌, ◌+◌, ◌<◌, List, [], ◌∷◌, ◌++◌, All, length, map, refl, sym, ap, subst, append_assoc, arith}
+use Rattle.std.proofs.Common.{◌≡◌, ◌∙◌, List, [], ◌∷◌, ◌++◌, All, length, map, refl, sym, ap, subst, append_assoc, arith}
 use Rattle.std.proofs.lemmas.List.{map-append, append-nil}
 use Rattle.std.proofs.lemmas.List.Elements.{All-tail}
 use Rattle.std.specs.List.{enumerate_from}
 use Rattle.view_script.specs.declared.command.Command.{Command}
-use Rattle.view_script.specs.Script.{IsWithinLimits, NumberedCommand}
+use Rattle.view_script.specs.Script.{IsWithinLimits}
 use Rattle.team_run.specs.declared.task.Due.{Due}
 use Rattle.team_run.specs.Task.{IsDue, numbered}
 use Rattle.team_run.proofs.PlanLemmas.{call_of, calls_are, all_more, none_left}
@@ -18,7 +18,7 @@ loop-call-preserved c =
     let was = c.loop-call.invariant in
     let due : Due = record { phase = c.args.phase; actor = c.args.actor; call = c.in-Some.call; task = c.in_ok-task.task } in
     let split : enumerate_from c.loop-call.call-iterator.count c.loop-call.call-iterator.iter.rest.items ≡ (c.in-Some.call, one) ∷ enumerate_from c.next.new.self.count rest =
-        rw (step.0.0, step.2, step.1) refl in
+    rw (step.0.0, step.2, step.1) refl in
     let call = call_of c.args.top c.args.phase c.args.actor in
     record {
       can = c.in-Some.ensures.goes.keeps;

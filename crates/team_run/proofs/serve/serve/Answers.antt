@@ -1,5 +1,4 @@
 -- What a task answers is what its part does.
-use Rattle.sole_cache.specs.Value.{by}
 use Rattle.team_run.proofs.AnswerLemmas.{get_answers, set_answers}
 use Rattle.team_run.proofs.serve.serve.Goals as goal
 

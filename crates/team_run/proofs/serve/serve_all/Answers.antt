@@ -1,5 +1,5 @@
 -- One task more is carried out.
-use Rattle.std.proofs.Common.{◌≡◌, ◌∙◌, ◌+◌, [], ◌∷◌, ◌++◌, List, count_by, cond, length, map, refl, sym, ap, subst, append_assoc, arith, All}
+use Rattle.std.proofs.Common.{◌≡◌, ◌∙◌, ◌+◌, [], ◌∷◌, ◌++◌, List, count_by, cond, length, map, sym, ap, subst, append_assoc, arith, All}
 use Rattle.std.proofs.lemmas.List.{map-append}
 use Rattle.std.proofs.lemmas.List.Elements.{All-tail}
 use Rattle.std.proofs.lemmas.List.Sums.{sum_by-cons}
@@ -24,7 +24,7 @@ loop-due-preserved g c =
     let more = c.serve_due.ensures in
     let views : count_by (λ (d : Due). is_view d.task) (one ∷ rest) ≡ cond (is_view one.task) 1 0 + count_by (λ d. is_view d.task) rest = sum_by-cons _ one rest in
     let adds : Adds first (map numbered done ++ numbered one ∷ []) c.args.replies.now.items c.serve_due.new.replies.items c.args.shots.now.items c.serve_due.new.shots.items last =
-        adds_on first (desk (shown c.loop-due.cache) c.loop-due.queue) last (map numbered done) (numbered one ∷ []) _ _ _ _ _ _ c.loop-due.invariant.adds more.adds in
+    adds_on first (desk (shown c.loop-due.cache) c.loop-due.queue) last (map numbered done) (numbered one ∷ []) _ _ _ _ _ _ c.loop-due.invariant.adds more.adds in
     record {
       can = tt;
       finite = tt;

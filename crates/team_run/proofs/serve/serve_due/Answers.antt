@@ -1,5 +1,4 @@
 -- A task's reply and its shot are added.
-use Rattle.std.proofs.Common.{refl}
 use Rattle.team_run.specs.Task.{numbered}
 use Rattle.team_run.proofs.ServeLemmas.{adds_one}
 use Rattle.team_run.proofs.serve.serve_due.Goals as goal

@@ -30,11 +30,11 @@ returns-clause-cut_off g c =
     let eyes = c.new-eyes.result in
     let last = c.paint-painted.new.eyes in
     let names : (eyes.cache.ghost_name ≡ last.cache.ghost_name) × (eyes.queue.ghost_name ≡ last.queue.ghost_name) =
-        either_frame _ _ _ _ _ c.paint-painted.result eyes last c.args.view.now c.paint-painted.new.picture c.paint-painted.ensures.frame c.paint-painted.ensures.refused
-        (λ p u led. (led.0, led.1)) (λ mid p q u led more. (led.0 ∙ more.0, led.1 ∙ more.1)) in
+    either_frame _ _ _ _ _ c.paint-painted.result eyes last c.args.view.now c.paint-painted.new.picture c.paint-painted.ensures.frame c.paint-painted.ensures.refused
+    (λ p u led. (led.0, led.1)) (λ mid p q u led more. (led.0 ∙ more.0, led.1 ∙ more.1)) in
     let cut : Desk → Desk → Type 0 = λ d e. IfErr c.paint-painted.result (λ err. IsCutOff DeskLeads levels_at (λ _. 0) (λ _. c.args.viewer) IsDeskRefusal d e c.args.view.now c.paint-painted.new.picture err) in
     let at_eyes : cut (desk (shown eyes.cache.now) eyes.queue.now) (desk (shown last.cache.now) last.queue.now) =
-        cut_as _ _ _ _ _ DeskLeads levels_at (λ _. c.args.viewer) IsDeskRefusal (λ e. desk (shown e.cache.now) e.queue.now) (λ a b p u led. record { cache = led.3; queue = led.4 }) (λ a b cell err cause. cause)
-        c.paint-painted.result eyes last c.args.view.now c.paint-painted.new.picture refl refl c.new-eyes.ensures.viewer c.paint-painted.ensures.refused in
+    cut_as _ _ _ _ _ DeskLeads levels_at (λ _. c.args.viewer) IsDeskRefusal (λ e. desk (shown e.cache.now) e.queue.now) (λ a b p u led. record { cache = led.3; queue = led.4 }) (λ a b cell err cause. cause)
+    c.paint-painted.result eyes last c.args.view.now c.paint-painted.new.picture refl refl c.new-eyes.ensures.viewer c.paint-painted.ensures.refused in
     at_desk (cut (desk (shown c.args.cache.now) c.args.queue.now)) shown last.cache.now _ last.queue.now _ (c.cache-1.given.1 (sym c.new-eyes.ensures.same_cache ∙ names.0)) (c.queue-1.given.1 (sym c.new-eyes.ensures.same_queue ∙ names.1))
     (at_desk (λ d. cut d (desk (shown last.cache.now) last.queue.now)) shown eyes.cache.now c.args.cache.now eyes.queue.now c.args.queue.now (sym c.new-eyes.ensures.cache) (sym c.new-eyes.ensures.queue) at_eyes)

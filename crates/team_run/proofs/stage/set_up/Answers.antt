@@ -1,6 +1,5 @@
 -- A volume has cells, and what is set up is what was made.
-use Rattle.std.proofs.Common.{◌≡◌, ◌∙◌, ℕ, List, Option, count_by, length, map, refl, subst, ap, arith}
-use Rattle.view_script.specs.Script.{NumberedCommand}
+use Rattle.std.proofs.Common.{◌≡◌, ◌∙◌, ℕ, Option, count_by, map, refl, subst, ap, arith}
 use Rattle.team_run.specs.declared.task.Due.{Due}
 use Rattle.team_run.specs.Range.{commands_of_phases, ranged}
 use Rattle.team_run.specs.Task.{is_view, numbered}
