@@ -31,8 +31,7 @@ module _ {E : Type 0} (leads : E → List Event → List Asked → E → Type 0)
   abbrev pub Made : E → Served → E → Type 0
   Made e served e' = (events : List Event) × (calls : List Asked) × IsServing leads levels number caused e served events calls e'
 
-  module _ (stays : (e : E) → leads e [] [] e)
-      (leads_on : (a b c : E) (p q : List Event) (u v : List Asked) → leads a p u b → leads b q v c → leads a (p ++ q) (u ++ v) c)
+  module _ (leads_on : (a b c : E) (p q : List Event) (u v : List Asked) → leads a p u b → leads b q v c → leads a (p ++ q) (u ++ v) c)
       (same_number : (a b : E) (p : List Event) (u : List Asked) → leads a p u b → number a ≡ number b) where
     -- a cell that was pinned for a request, and given back
     pub cell_served : (e mid got e' : E) (request : Request) (cell : ℕ) (told loaded : Bool) (piece : List Event) → request.cell < cells_of (levels e) → leads e [] (taking (Some request)) mid → leads mid piece [] got
@@ -87,18 +86,6 @@ module _ {E : Type 0} (leads : E → List Event → List Asked → E → Type 0)
       ap (λ (l : List Event). l ++ q) h.7 ∙ append_assoc h.1 h.2 q,
       ap (λ (l : List Asked). l ++ v) h.8 ∙ append_assoc h.3 h.4 v,
     )
-
-    -- no serving so far
-    pub serves_none : (e : E) → Serves e 0 (record { loaded = 0; held = 0; refused = 0 }) e
-    serves_none e = record {
-      servings = [];
-      events = [];
-      calls = [];
-      led = stays e;
-      are = (refl, refl, refl);
-      whole = record { served = refl; all = refl };
-      counts = refl;
-    }
 
     -- one request more
     pub serves_more : (e e' e'' : E) (n : ℕ) (f g : Fetched) (last : Served) → goes_on last ≡ true → Serves e n f e' → Made e' last e''

@@ -12,9 +12,9 @@ use volatile_cell::Eyes;
 /// A serving was refused for want of memory.
 pub type Memory = AllocError;
 
-/// Serves so many requests, or fewer where the queue has no more, and counts them. It takes no memory of its own.
+/// Serves so many requests, or fewer where the queue has no more, and counts what became of them. It takes no memory of its own.
 ///
-/// Where a serving is refused for want of memory, it serves no further, and answers that.
+/// An error where a serving was refused for want of memory; it serves no further then. Other refusals are counted.
 pub fn serve_up_to<E: Eyes>(eyes: &mut E, count: u32) -> Result<Fetched, Memory>
     requires free { E.held eyes.old ≡ 0 }
     ensures fetch { IsFetch E.leads E.levels E.number E.caused eyes.old count result eyes.new }

@@ -7,7 +7,9 @@ ghost use Rattle.fetchers.specs.Servings.{IsServing};
 use crate::served::Served;
 use volatile_cell::Eyes;
 
-/// Takes the next request, and acquires and releases its cell. It takes no memory of its own.
+/// Serves the next request: it takes it, and acquires and releases its cell. It takes no memory of its own.
+///
+/// Idle exactly where the queue has no request; Refused exactly where the acquire was, with its error.
 pub fn serve_one<E: Eyes>(eyes: &mut E) -> Served
     requires free { E.held eyes.old ≡ 0 }
     ensures served { (events : List Event) × (calls : List Asked) × IsServing E.leads E.levels E.number E.caused eyes.old result events calls eyes.new }

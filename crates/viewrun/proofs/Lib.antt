@@ -1,4 +1,10 @@
 -- Lemmas of the call.
+mod KeyLemmas
+mod LogLemmas
 mod NumberLemmas
+mod PictureLemmas
+mod RunLemmas
 mod SourceLemmas
 mod StoresLemmas
+mod ViewLemmas
+mod WrittenLemmas

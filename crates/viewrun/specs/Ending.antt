@@ -1,5 +1,5 @@
 -- How a call ends: the text and the status of what was done.
-use Rattle.std.specs.Prelude.{◌≡◌, ℕ, List, [], Result, Ok, Err}
+use Rattle.std.specs.Prelude.{◌≡◌, ℕ, List, Result, Ok, Err}
 use Rattle.cell_store.specs.Stream.{Stream}
 use Rattle.run_report.specs.declared.print.PrintErr.{PrintErr}
 use Rattle.run_report.specs.declared.stop.Stop.{Stop}
@@ -14,13 +14,13 @@ use Rattle.viewrun.specs.declared.work.Done.TheVariants.{Levels, Ran}
 -- the text of what was done, or of why nothing was
 abbrev pub text_of : Result Done Stop → List ℕ
 text_of (Ok (Levels levels)) = info_text levels
-text_of (Ok (Ran report)) = report_text report []
+text_of (Ok (Ran report unwritten)) = report_text report unwritten
 text_of (Err stop) = line (stop_text stop)
 
 -- the status where the text is printed whole
 abbrev pub status_of : Result Done Stop → ℕ
 status_of (Ok (Levels levels)) = 0
-status_of (Ok (Ran report)) = status_of_report report []
+status_of (Ok (Ran report unwritten)) = status_of_report report unwritten
 status_of (Err stop) = status_of_stop stop
 
 -- a text that is not printed whole decides the status

@@ -1,26 +1,26 @@
 -- What a call does by what its words ask for, in the order of work: the script, its volume, the slots, the run.
-use Rattle.std.specs.Prelude.{◌≡◌, ℕ, List, ◌∷◌, Option, Some, None, Result, Ok, Err}
+use Rattle.std.specs.Prelude.{◌≡◌, ℕ, ◌+◌, List, Option, Some, None, Result, Ok, Err}
 use Rattle.cell_grid.specs.declared.level.Level.{Level}
 use Rattle.cell_store.specs.Store.{Contents}
 use Rattle.cell_store.specs.Stream.{Stream}
 use Rattle.n5_meta.specs.declared.open_err.OpenErr.{OpenErr}
+use Rattle.run_report.specs.declared.report.Report.{Report}
+use Rattle.run_report.specs.declared.report.Unwritten.{Unwritten}
 use Rattle.run_report.specs.declared.stop.Stop.{Stop}
 use Rattle.run_report.specs.declared.stop.Stop.TheVariants as stop
 use Rattle.team_run.specs.declared.ran.RunErr.TheVariants.{Slots}
-use Rattle.team_run.specs.Run.{SoloAnswers}
+use Rattle.sole_cache.specs.Shut.{Licenses, failed_puts}
+use Rattle.team_run.specs.Range.{commands_over}
+use Rattle.team_run.specs.Run.{IsRunOf, IsWithin, SoloAnswers, fault_replies, fault_servings}
 use Rattle.view_script.specs.declared.script.Script.{Script}
-use Rattle.view_script.specs.Script.{commands_of}
 use Rattle.viewrun.specs.declared.words.Request.{Request}
 use Rattle.viewrun.specs.declared.words.Request.TheVariants.{Info, Solo}
 use Rattle.viewrun.specs.declared.work.Done.{Done}
 use Rattle.viewrun.specs.declared.work.Done.TheVariants.{Levels, Ran}
+use Rattle.viewrun.specs.Pictures.{PutsShots, WritesPictures, failed_pictures}
 use Rattle.viewrun.specs.Script.{ReadsScript, TakesFew}
+use Rattle.viewrun.specs.Stores.{FirstChanges}
 use Rattle.viewrun.specs.Volume.{OpensPyramid, OpensVolume, keys_of}
-
--- The first store changes so, and the others are as they were.
-abbrev pub FirstChanges : (Contents → Contents → Type 0) → List Contents → List Contents → Type 0
-FirstChanges P (old ∷ olds) (new ∷ news) = P old new × (news ≡ olds)
-FirstChanges P olds news = ⊥
 
 -- the levels, or the refusal of the dataset
 abbrev pub told_of : Result (List Level) OpenErr → Result Done Stop
@@ -33,10 +33,25 @@ pub record Informs (root : List ℕ) (old new : List Contents) (work : Result Do
   pub opens : FirstChanges (λ before after. OpensPyramid root before after opened) old new
   pub told : work ≡ told_of opened
 
+-- A run was carried out and its cache shut, and then its pictures were put into the first store.
+pub record RunsAndWrites (script : Script) (slots : ℕ) (levels : List Level) (old new : List Contents) (report : Report) (unwritten : List Unwritten) : Type 0 where
+  pub within : IsWithin levels slots
+  pub mid : List Contents
+  pub run : IsRunOf levels (keys_of script.head levels) slots (commands_over levels script) old mid report
+  pub writes : FirstChanges (WritesPictures levels (keys_of script.head levels) report.shots unwritten) mid new
+  -- one fault licenses one answer: the counts of the stores rose by as many as are told, those of pictures among them
+  pub licensed : Licenses old (fault_replies report.replies + fault_servings run.completes.trace.servings + failed_puts report.unsaved + failed_pictures unwritten) new
+
+-- The pictures of a report were put into the first store, and told beside it.
+pub record WritesShots (report : Report) (old new : List Contents) (work : Result Done Stop) : Type 0 where
+  pub unwritten : List Unwritten
+  pub done : work ≡ Ok (Ran report unwritten)
+  pub puts : FirstChanges (λ before after. PutsShots report.shots before after unwritten) old new
+
 -- An open volume's commands were run, or the slots refused. Where there is no run the stores come back as they were.
 abbrev pub RunsOpen : Script → ℕ → List Level → List Contents → List Contents → Result Done Stop → Type 0
-RunsOpen script slots levels old new (Ok (Ran report)) = SoloAnswers levels (keys_of script.head levels) slots (commands_of script) old new (Ok report)
-RunsOpen script slots levels old new (Err (stop.Slots found low high)) = SoloAnswers levels (keys_of script.head levels) slots (commands_of script) old new (Err (Slots found low high))
+RunsOpen script slots levels old new (Ok (Ran report unwritten)) = RunsAndWrites script slots levels old new report unwritten
+RunsOpen script slots levels old new (Err (stop.Slots found low high)) = SoloAnswers levels (keys_of script.head levels) slots (commands_over levels script) old new (Err (Slots found low high))
 RunsOpen script slots levels old new (Err stop.Memory) = new ≡ old
 RunsOpen script slots levels old new other = ⊥
 

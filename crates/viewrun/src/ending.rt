@@ -33,7 +33,7 @@ fn text_of(alloc: Global, work: &Result<Done, Stop>) -> Result<String, AllocErro
 {
     match work {
         Ok(Done::Levels(geometry)) => info_text(alloc, geometry),
-        Ok(Done::Ran(report)) => report.text(alloc, &[]),
+        Ok(Done::Ran { report, unwritten }) => report.text(alloc, unwritten.as_slice()),
         Err(stop) => stop.text(alloc),
     }
 }
@@ -43,7 +43,7 @@ fn status_of(work: &Result<Done, Stop>) -> u8
 {
     match work {
         Ok(Done::Levels(_)) => 0,
-        Ok(Done::Ran(report)) => report.status(&[]),
+        Ok(Done::Ran { report, unwritten }) => report.status(unwritten.as_slice()),
         Err(stop) => stop.status(),
     }
 }

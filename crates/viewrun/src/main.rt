@@ -5,6 +5,7 @@ ghost use Rattle.std.specs.Prelude.{◌≡◌, IfOk, vec_len};
 
 mod call;
 mod ending;
+mod pictures;
 mod solo;
 mod source;
 mod volume;

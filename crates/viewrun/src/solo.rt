@@ -1,15 +1,17 @@
 // The run of a script on one thread: what is read, opened and run, and the first refusal in this order.
-ghost use Rattle.std.specs.Prelude.{◌≡◌, ◌≤◌, map, vec_len, Err};
+ghost use Rattle.std.specs.Prelude.{◌≡◌, ◌≤◌, [], Err, length, map, vec_capacity, vec_len};
 ghost use Rattle.view_script.specs.Script.{IsScript};
 ghost use Rattle.viewrun.specs.Volume.{IsMade};
-ghost use Rattle.viewrun.specs.Work.{OpensAndRuns, ReadsAndRuns, RunsOpen};
+ghost use Rattle.viewrun.specs.Work.{OpensAndRuns, ReadsAndRuns, RunsOpen, WritesShots};
 
+use crate::pictures::{put_shots, view_count};
 use crate::source::script_of;
 use crate::volume::{open_volume, volume_keys};
 use crate::work::{Done, Worked};
 use cell_grid::Geometry;
 use cell_store::{Source, Store};
-use run_report::Stop;
+use plain_data::Items;
+use run_report::{Report, Stop, Unwritten};
 use std::alloc::Global;
 use team_run::{Ran, RunErr, solo_run};
 use view_script::Script;
@@ -49,7 +51,8 @@ fn open_and_run<S: Store>(
     }
 }
 
-/// Runs a script over the volume that it opened.
+/// Runs a script over the volume that it opened, and puts its pictures into the first store. The room for the names of pictures that
+/// are not written is taken before the run.
 fn run_open<S: Store>(
     alloc: Global,
     geometry: Geometry,
@@ -66,12 +69,40 @@ fn run_open<S: Store>(
     let Ok(keys) = volume_keys(&script.head, &geometry) else {
         return stopped(Stop::Memory, stores);
     };
-    let Ran { report, stores } = solo_run(alloc, geometry, keys, script, slots, stores);
-    let work = match report {
-        Ok(report) => Ok(Done::Ran(report)),
-        Err(RunErr::Slots { found, low, high }) => Err(Stop::Slots { found, low, high }),
-        Err(RunErr::Memory) => Err(Stop::Memory),
+    let Ok(unwritten) = Vec::with_capacity(alloc, view_count(script.phases.as_slice())) else {
+        return stopped(Stop::Memory, stores);
     };
+    let Ran { report, stores } = solo_run(alloc, geometry, keys, script, slots, stores);
+    match report {
+        Ok(report) => write_shots(alloc, report, unwritten, stores),
+        Err(RunErr::Slots { found, low, high }) => stopped(
+            Stop::Slots { found, low, high },
+            stores,
+        ),
+        Err(RunErr::Memory) => stopped(Stop::Memory, stores),
+    }
+}
+
+/// Puts the pictures of a report into the first store. There is room for the names of all.
+fn write_shots<S: Store>(
+    alloc: Global,
+    report: Report,
+    mut unwritten: Vec<Unwritten>,
+    mut stores: Vec<S>,
+) -> Worked<S>
+    requires none { unwritten.items ≡ [] }
+    requires room { length report.shots ≤ vec_capacity unwritten }
+    requires some_stores { 1 ≤ vec_len stores }
+    ensures { WritesShots report (map S.contents stores.items) (map S.contents result.stores.items) result.work }
+{
+    put_shots(
+        alloc,
+        &mut stores[0],
+        report.shots.as_slice(),
+        &mut unwritten,
+    );
+    let unwritten = Items::from_vec(unwritten);
+    let work = Ok(Done::Ran { report, unwritten });
     Worked { work, stores }
 }
 

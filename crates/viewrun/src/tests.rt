@@ -1,5 +1,6 @@
 // What the program writes, and what it leaves in its stores, over stores in memory.
 mod faults;
+mod pictures;
 mod pyramids;
 mod refusals;
 mod runs;

@@ -8,7 +8,8 @@ use crate::words::{Request, request_of};
 use cell_grid::Geometry;
 use cell_store::{Source, Store};
 use n5_meta::open_pyramid;
-use run_report::{Report, Stop};
+use plain_data::Items;
+use run_report::{Report, Stop, Unwritten};
 use std::alloc::Global;
 
 /// What a call did.
@@ -16,8 +17,11 @@ use std::alloc::Global;
 pub enum Done {
     /// It read the levels of a pyramid.
     Levels(Geometry),
-    /// It ran a script.
-    Ran(Report),
+    /// It ran a script, and could not write some of its pictures.
+    Ran {
+        report: Report,
+        unwritten: Items<Unwritten>,
+    },
 }
 
 /// What was done over stores, or why nothing was, and the stores in their order.
