@@ -4,6 +4,7 @@ mod pictures;
 mod pyramids;
 mod refusals;
 mod runs;
+mod views;
 
 use crate::call::{Ended, viewrun_alone};
 use cell_store::{MemSink, MemSource, MemStore};

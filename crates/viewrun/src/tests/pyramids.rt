@@ -14,7 +14,7 @@ const LEVEL_1: &[u8] =
     b"{\"dimensions\":[2,2,1],\"blockSize\":[2,2,1],\"dataType\":\"uint8\",\"compression\":{\"type\":\"raw\"}}";
 
 /// A pyramid of two levels, of 4 x 4 x 1 and of 2 x 2 x 1 bytes, of which two blocks are held.
-const PYRAMID: &[(&str, &[u8])] = &[
+pub(super) const PYRAMID: &[(&str, &[u8])] = &[
     ("pyr/setup0/attributes.json", SETUP),
     ("pyr/setup0/timepoint0/s0/attributes.json", LEVEL_0),
     ("pyr/setup0/timepoint0/s1/attributes.json", LEVEL_1),
