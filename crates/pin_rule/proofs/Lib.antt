@@ -5,3 +5,4 @@ pub mod Fills
 pub mod LaneSeats
 pub mod Draining
 pub mod Trying
+pub mod Telling

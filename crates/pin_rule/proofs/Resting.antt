@@ -10,7 +10,7 @@ use Rattle.pin_words.specs.Plan.{Plan, IsPlan, lane_of}
 use Rattle.pin_words.specs.Rule.{Sat}
 use Rattle.pin_words.specs.Cells.{noted}
 use Rattle.pin_rule.specs.declared.made.Made.{Made}
-use Rattle.pin_rule.specs.declared.handles.Lane.{Lane}
+use Rattle.pin_rule.specs.Parts.{OwnLane}
 use Rattle.pin_rule.specs.Plans.{plan_of, IsMade}
 use Rattle.pin_rule.specs.Calls.{carried, Rests, SamePass, HasRoom, MaySave}
 use Rattle.pin_words.specs.Ends.{child}
@@ -41,7 +41,7 @@ module _ {S : Type 0} where
   carried_noted true h (Some o) = refl
 
   -- a marked cell that may go has its lane
-  pub lane_given : {A : Type 0} (p : Plan S (Option (Made S))) (f : A → Lane S) (d : Doing S (Option (Made S))) (c : ℕ) (m : Bool) (lane : Option A) → MatchOption lane (m ≡ false) (λ x. (m ≡ true) × MaySave p d c (f x)) → m ≡ true → (o : Taken S) × (d.lane ≡ Some o) × (lane_of p c ≡ o.lane)
+  pub lane_given : {A : Type 0} (p : Plan S (Option (Made S))) (f : A → OwnLane S) (d : Doing S (Option (Made S))) (c : ℕ) (m : Bool) (lane : Option A) → MatchOption lane (m ≡ false) (λ x. (m ≡ true) × MaySave p d c (f x)) → m ≡ true → (o : Taken S) × (d.lane ≡ Some o) × (lane_of p c ≡ o.lane)
   lane_given p f d c m None h is = absurd (true≢false (sym is ∙ h))
   lane_given p f d c m (Some x) h is = (h.1.0, h.1.1, h.1.3)
 

@@ -27,12 +27,11 @@ use Rattle.pin_words.specs.Lanes.{GivesLane}
 use Rattle.pin_rule.specs.declared.made.Made.{Made}
 use Rattle.pin_rule.specs.declared.pins.Pins.{Pins}
 use Rattle.pin_rule.specs.declared.pass.Pass.{Pass}
-use Rattle.pin_rule.specs.declared.handles.Handle.{Handle}
-use Rattle.pin_rule.specs.declared.handles.Lane.{Lane}
+use Rattle.pin_rule.specs.Parts.{PinnedCell, OwnLane}
 use Rattle.pin_rule.specs.Plans.{plan_of}
 
 -- the pin of a handle
-abbrev pub pin_of : Handle → Pin
+abbrev pub pin_of : PinnedCell → Pin
 pin_of h = pin h.cell h.slot h.marked
 
 module _ {S : Type 0} where
@@ -72,7 +71,6 @@ module _ {S : Type 0} where
   abbrev pub Rests : Sat S (Option (Made S)) → Made S → Type 0
   Rests m made = (m.0.made ≡ Some made) × (m.0.stage ≡ Idle) × (m.1 ≡ carried m.0.lane)
 
-  -- a pass of this table
   -- the first pass has drawn its own number, and has the memory of the list that the stores came in
   abbrev pub HasRoom : Doing S (Option (Made S)) → ℕ → Made S → Type 0
   HasRoom d room made = d.number ≡ 0 → (0 < d.drawn) × (length made.stores.value.items ≤ room)
@@ -81,11 +79,12 @@ module _ {S : Type 0} where
   abbrev pub SamePass : Doing S (Option (Made S)) → Doing S (Option (Made S)) → Type 0
   SamePass d d' = (d'.number ≡ d.number) × (d'.drawn ≡ d.drawn)
 
+  -- a pass of this table
   abbrev pub IsPassOf : Pins S → Pass S → Type 0
   IsPassOf t p = (p.seat.table_id ≡ t.table.shared.table_id) × Rests p.seat.me (made_of t) × HasRoom (view p) (vec_capacity p.list) (made_of t)
 
   -- the handle is one of the pass
-  abbrev pub IsHeld : Pins S → Pass S → Handle → Type 0
+  abbrev pub IsHeld : Pins S → Pass S → PinnedCell → Type 0
   IsHeld t p h = (has_pin (pin_of h) (view p) ≡ true) × (h.cell < cell_count t) × (h.slot < slot_count t)
 
   -- the slot is one of the pass
@@ -109,20 +108,20 @@ module _ {S : Type 0} where
   IsRefusedPin p d c state d' = Adds p d (event.Miss d.number c) d d' × (state ≡ seen_of ((after (start_of p) d'.seen).cells c))
 
   -- What `fill` asks of the lane: it is the cell's, where told the numbers are due, and the log has a get for each fill, this one included.
-  abbrev pub MayFill : Plan S (Option (Made S)) → Doing S (Option (Made S)) → ℕ → Lane S → List ℕ → Type 0
+  abbrev pub MayFill : Plan S (Option (Made S)) → Doing S (Option (Made S)) → ℕ → OwnLane S → List ℕ → Type 0
   MayFill p d c lane values = (o : Taken S) × (d.lane ≡ Some o) × (lane.lane ≡ o.lane) × (lane_of p c ≡ o.lane) × IsDue p o c values
       × (IsTrue (p.shows o.store).told_log → gets_under (p.edited c) (p.shows o.store).log + (times_in c o.fills + 1) ≤ gets_under (p.edited c) (p.shows lane.store).log)
 
   -- What `gone` asks of a marked cell: the pass has the cell's lane, and where told its store stands for the frame.
-  abbrev pub MaySave : Plan S (Option (Made S)) → Doing S (Option (Made S)) → ℕ → Lane S → Type 0
+  abbrev pub MaySave : Plan S (Option (Made S)) → Doing S (Option (Made S)) → ℕ → OwnLane S → Type 0
   MaySave p d c lane = (o : Taken S) × (d.lane ≡ Some o) × (lane.lane ≡ o.lane) × (lane_of p c ≡ o.lane)
       × (IsTrue (p.shows o.store).told → StandsFor p (p.shows lane.store).held c ((after (start_of p) (left_of c d).at).arrays c))
 
   -- the lane is the pass's, and its store may come home
-  abbrev pub MayReturn : Plan S (Option (Made S)) → Doing S (Option (Made S)) → Lane S → Type 0
+  abbrev pub MayReturn : Plan S (Option (Made S)) → Doing S (Option (Made S)) → OwnLane S → Type 0
   MayReturn p d lane = (o : Taken S) × (d.lane ≡ Some o) × (lane.lane ≡ o.lane) × Returns p o d.seen lane.store
 
-  abbrev pub IsReturned : Plan S (Option (Made S)) → Doing S (Option (Made S)) → Lane S → Doing S (Option (Made S)) → Type 0
+  abbrev pub IsReturned : Plan S (Option (Made S)) → Doing S (Option (Made S)) → OwnLane S → Doing S (Option (Made S)) → Type 0
   IsReturned p d lane d' = (o : Taken S) × (d.lane ≡ Some o) × (lane.lane ≡ o.lane) × GivesLane p d o lane.store d'
 
 -- each is there, not None

@@ -1,3 +1,4 @@
+pub mod Parts
 pub mod Plans
 pub mod Calls
 pub mod Trails

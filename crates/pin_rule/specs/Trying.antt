@@ -1,4 +1,4 @@
--- What the tests say of a pass and of a table.
+-- What a caller that works with one cell at a time says of its pass and of its table: the tests, and a program that times the calls.
 use Rattle.std.specs.Prelude.{◌≡◌, ℕ, ◌≤◌, Bool, List, [], ◌∷◌, Some, None}
 use Rattle.arr_history.specs.declared.event.Event.{Event}
 use Rattle.cell_store.specs.Store.{Contents}
@@ -14,7 +14,7 @@ use Rattle.pin_words.specs.Ends.{IsBare}
 use Rattle.pin_words.specs.Finding.{pin}
 use Rattle.pin_words.specs.Cells.{held, left}
 use Rattle.pin_rule.specs.declared.pins.Pins.{Pins}
-use Rattle.pin_rule.specs.declared.handles.Lane.{Lane}
+use Rattle.pin_rule.specs.Parts.{OwnLane}
 use Rattle.pin_rule.specs.Calls.{made_of, cell_count, slot_count, lane_count}
 
 -- it is the same to the roster
@@ -48,7 +48,7 @@ module _ {S M : Type 0} where
     pub leaving : (at : List Event) × (d.leaving ≡ left c s mark at ∷ [])
 
   -- it has lane 0, with a store whose faults have not become fewer
-  pub record HasLane (shows : S → Contents) (lane : Lane S) (d : Doing S M) : Type 0 where
+  pub record HasLane (shows : S → Contents) (lane : OwnLane S) (d : Doing S M) : Type 0 where
     pub number : lane.lane ≡ 0
     pub taken : (o : Taken S) × (d.lane ≡ Some o) × (o.lane ≡ 0) × ((shows o.store).faults ≤ (shows lane.store).faults)
 
@@ -57,9 +57,10 @@ pub record IsSmall (levels : List Level) (c : ℕ) : Type 0 where
   pub voxels : voxels_of levels c ≡ 8
   pub kind : kind_of levels c ≡ U8
 
--- a table of three cells, two slots and one lane, over these levels, and keys of the same levels
+-- a table of three cells, two slots and one lane, over these levels, which knows the cells by these keys
 pub record IsTried {S : Type 0} (levels : List Level) (keys : KeyNames) (t : Pins S) : Type 0 where
   pub over : (made_of t).levels.value ≡ levels
+  pub known : (made_of t).keys.value ≡ keys
   pub alike : keys.levels ≡ levels
   pub cells : cell_count t ≡ 3
   pub slots : slot_count t ≡ 2

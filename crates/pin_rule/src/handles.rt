@@ -1,5 +1,8 @@
-// What belongs to a pass. Each is to be spent by a call of the table that gave it.
+// What belongs to a pass. Each is to be spent by a call of the table that gave it. In contracts each is a record of its
+// numbers, as specs/Parts has them.
 ghost use Rattle.std.specs.Prelude.{◌≡◌};
+
+use std::marker::Model;
 
 /// A counted hold on a live cell.
 pub struct Handle {
@@ -7,6 +10,14 @@ pub struct Handle {
     pub(crate) slot: u32,
     pub(crate) marked: bool,
     pub(crate) loaded: bool,
+}
+
+impl Model for Handle {
+    ghost use Rattle.pin_rule.specs.Parts.{PinnedCell};
+
+    ghost Value = { PinnedCell };
+
+    ghost view = { λ x. record { cell = x.cell; slot = x.slot; marked = x.marked; loaded = x.loaded } };
 }
 
 impl Handle {
@@ -43,6 +54,14 @@ pub struct Claim {
     pub(crate) cell: u32,
 }
 
+impl Model for Claim {
+    ghost use Rattle.pin_rule.specs.Parts.{ClaimedCell};
+
+    ghost Value = { ClaimedCell };
+
+    ghost view = { λ x. record { cell = x.cell } };
+}
+
 impl Claim {
     pub fn cell(&self) -> u32
         ensures { result ≡ self.now.cell }
@@ -55,6 +74,14 @@ impl Claim {
 pub struct Slot {
     pub(crate) slot: u32,
     pub(crate) filled: Option<u32>,
+}
+
+impl Model for Slot {
+    ghost use Rattle.pin_rule.specs.Parts.{OwnSlot};
+
+    ghost Value = { OwnSlot };
+
+    ghost view = { λ x. record { slot = x.slot; filled = x.filled } };
 }
 
 impl Slot {
@@ -78,6 +105,14 @@ pub struct Lane<S> {
     pub store: S,
 }
 
+impl<S> Model for Lane<S> {
+    ghost use Rattle.pin_rule.specs.Parts.{OwnLane};
+
+    ghost Value = { OwnLane S };
+
+    ghost view = { λ x. record { lane = x.lane; store = x.store } };
+}
+
 impl<S> Lane<S> {
     pub fn lane(&self) -> u32
         ensures { result ≡ self.now.lane }
@@ -91,6 +126,14 @@ pub struct Leaving {
     pub(crate) cell: u32,
     pub(crate) slot: u32,
     pub(crate) marked: bool,
+}
+
+impl Model for Leaving {
+    ghost use Rattle.pin_rule.specs.Parts.{ClosedCell};
+
+    ghost Value = { ClosedCell };
+
+    ghost view = { λ x. record { cell = x.cell; slot = x.slot; marked = x.marked } };
 }
 
 impl Leaving {

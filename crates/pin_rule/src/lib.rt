@@ -8,6 +8,7 @@ mod fill_steps;
 mod handles;
 mod lane_calls;
 mod lane_steps;
+mod laws;
 mod made;
 mod pass;
 mod pin_calls;
@@ -23,6 +24,7 @@ mod tests;
 mod trail;
 
 pub use handles::{Claim, Handle, Lane, Leaving, Slot};
+pub use laws::pins_cross_threads;
 pub use made::Made;
 pub use pass::Pass;
 pub use pins::Pins;

@@ -1,5 +1,5 @@
 // A small table for tests.
-ghost use Rattle.std.specs.Prelude.{◌≡◌, IfOk};
+ghost use Rattle.std.specs.Prelude.{◌≡◌, length, IfOk};
 ghost use Rattle.cell_grid.specs.Pyramid.{cells_of, frame_of};
 ghost use Rattle.pin_rule.specs.Calls.{view, IsPassOf};
 ghost use Rattle.pin_rule.specs.Trying.{IsTried, IsFirst};
@@ -9,7 +9,7 @@ use super::steps::Grid;
 use crate::{Pass, Pins};
 use cell_file::Keys;
 use cell_grid::{Extent, Geometry, Kind, Level};
-use cell_store::MemStore;
+use cell_store::{MemStore, Store};
 use plain_data::is_root_name;
 use std::alloc::{AllocError, Global};
 use std::collections::BTreeMap;
@@ -34,15 +34,28 @@ pub fn grid(rt: &impl Abort, alloc: Global) -> Result<Grid, Fail>
     Ok((geometry, keys))
 }
 
-/// A table of two slots over one empty store, whose calls of these numbers fail.
+/// A table of two slots over one empty store that tells nothing, whose calls of these numbers fail.
 pub fn table(alloc: Global, grid: &Grid, fail: Vec<u64>) -> Result<(Pins<Quiet>, Pass<Quiet>), Fail>
     requires sizes { (cells_of grid.now.0 ≡ 3) × (frame_of grid.now.0 ≡ 8) × (grid.now.1.levels ≡ grid.now.0) }
     ensures tried { IfOk result (λ r. IsTried grid.now.0 grid.now.1 r.0) }
     ensures pass { IfOk result (λ r. IsPassOf r.0 r.1 × IsFirst (view r.1)) }
 {
-    let (geometry, keys) = grid;
     let store = MemStore::new(alloc, BTreeMap::new(alloc), fail);
-    let stores = vec![in alloc; Quiet { store }]?;
+    table_over(alloc, grid, vec![in alloc; Quiet { store }]?)
+}
+
+/// A table of two slots over one store.
+pub fn table_over<S: Store + Drop>(
+    alloc: Global,
+    grid: &Grid,
+    stores: Vec<S>,
+) -> Result<(Pins<S>, Pass<S>), Fail>
+    requires sizes { (cells_of grid.now.0 ≡ 3) × (frame_of grid.now.0 ≡ 8) × (grid.now.1.levels ≡ grid.now.0) }
+    requires store { length stores.items ≡ 1 }
+    ensures tried { IfOk result (λ r. IsTried grid.now.0 grid.now.1 r.0) }
+    ensures pass { IfOk result (λ r. IsPassOf r.0 r.1 × IsFirst (view r.1)) }
+{
+    let (geometry, keys) = grid;
     match Pins::new(alloc, geometry, keys, 2, stores) {
         Ok(made) => Ok(made),
         Err(_) => Err(AllocError.into()),

@@ -1,7 +1,9 @@
 // What the tests do with a cell, call by call.
 ghost use Rattle.std.specs.Prelude.{◌≡◌, ℕ, ◌<◌, ◌≤◌, true, false, None, length, slice_index};
 ghost use Rattle.cell_grid.specs.Pyramid.{cells_of};
-ghost use Rattle.pin_rule.specs.Calls.{view, made_of, cell_count, slot_count, lane_count, voxel_count, greatest_in, IsPassOf};
+ghost use Rattle.pin_words.specs.declared.doing.Doing.{Doing};
+ghost use Rattle.pin_words.specs.Cells.{IsFilled};
+ghost use Rattle.pin_rule.specs.Calls.{view, plan_at, made_of, cell_count, slot_count, lane_count, voxel_count, greatest_in, IsPassOf, MayFill, MayReturn};
 ghost use Rattle.pin_rule.specs.Trying.{SameRoster, StaysBare, IsLoading, IsUsing, IsLeaving, HasLane, IsSmall, IsTried};
 
 use super::quiet::Quiet;
@@ -23,18 +25,19 @@ pub fn measure(rt: &impl Abort, geometry: &Geometry, cell: u32)
 }
 
 /// Fills the slot, gives the lane back and makes the cell live.
-pub fn publish(
-    pins: &Pins<Quiet>,
-    pass: &mut Pass<Quiet>,
+pub fn publish<S: Store>(
+    pins: &Pins<S>,
+    pass: &mut Pass<S>,
     claim: Claim,
     mut slot: Slot,
-    lane: Lane<Quiet>,
+    lane: Lane<S>,
     values: &[u64],
 ) -> Handle
     requires pass { IsPassOf pins.now pass.old }
-    requires tried { (claim.cell < cell_count pins.now) × (slot.slot < slot_count pins.now) × (lane_count pins.now ≡ 1) }
+    requires tried { (claim.cell < cell_count pins.now) × (slot.slot < slot_count pins.now) × (lane.lane < lane_count pins.now) }
     requires loading { IsLoading claim.cell slot.slot (view pass.old) × (slot.filled ≡ None) }
-    requires lane { HasLane ⟦<Quiet as Store>⟧.contents lane (view pass.old) }
+    requires lane { MayFill (plan_at S.contents pins.now) (view pass.old) claim.cell lane values.now }
+    requires home { (d : Doing _ _) → IsFilled (view pass.old) claim.cell slot.slot values.now d → MayReturn (plan_at S.contents pins.now) d lane }
     requires values { length values.now ≡ voxel_count pins.now claim.cell }
     requires fits { (i : ℕ) → slice_index values.now i ≤ greatest_in pins.now claim.cell }
     ensures pass { IsPassOf pins.now pass.new × SameRoster (view pass.old) (view pass.new) }

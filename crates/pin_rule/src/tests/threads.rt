@@ -82,7 +82,7 @@ fn claim_and_load(
 }
 
 /// Pins a cell, which is loaded first where it is absent. None where another pass is in the way.
-fn acquire(
+pub fn acquire(
     rt: &impl Abort,
     alloc: Global,
     grid: &Grid,

@@ -1,4 +1,4 @@
-use Rattle.std.proofs.Common.{rules, sym, refl, ◌+◌, Option, Some, subst}
+use Rattle.std.proofs.Common.{rules, ℕ, sym, refl, ap, ◌+◌, Option, Some, subst}
 use mathlib.Core.Option.{none}
 use Rattle.std.specs.Prelude.{bit_or}
 use Rattle.atomic_table.specs.Table.{step, Allows}
@@ -6,6 +6,7 @@ use Rattle.pin_words.specs.declared.holding.Pin.{Pin}
 use Rattle.pin_words.specs.Rule.{Ruled}
 use Rattle.pin_words.specs.Pins as pins
 use Rattle.pin_words.proofs.Pinning.{marks_cell}
+use Rattle.pin_rule.specs.Parts.{PinnedCell}
 use Rattle.pin_rule.specs.Plans.{plan_of}
 use Rattle.pin_rule.specs.Calls.{pin_of}
 use Rattle.pin_rule.proofs.Finds.{picks_pin}
@@ -13,7 +14,7 @@ use Rattle.pin_rule.proofs.Resting.{rests_as, number_as}
 use Rattle.pin_rule.proofs.pin_steps.set_mark.Goals as goal
 
 pub fetch_or-requires : goal.fetch_or-requires
-fetch_or-requires g c = let plan = plan_of g.S.Store.contents in let p = plan (Some c.args.words.now.key) in (search rules, search rules, subst (λ (q : Pin). Allows (Ruled p) c.args.words.now.table_id.slots c.args.seat.now.id c.args.seat.now.me (1 + c.args.h.now.cell) (λ n. bit_or n 16777216) (pins.marked plan q (step c.args.words.now.table_id.slots (1 + c.args.h.now.cell) 16777216 0 none) c.args.seat.now.me)) (sym c.requires.picked) (marks_cell p plan refl _ _ c.args.seat.now.me (pin_of c.args.h.now) c.requires.rests.1 (picks_pin (pin_of c.args.h.now) c.args.seat.now.me.0 c.requires.held)))
+fetch_or-requires g c = let plan = plan_of g.S.Store.contents in let p = plan (Some c.args.words.now.key) in (search rules, search rules, subst (λ (q : Pin × ℕ). Allows (Ruled p) c.args.words.now.table_id.slots c.args.seat.now.id c.args.seat.now.me (1 + q.1) (λ n. bit_or n 16777216) (pins.marked plan q.0 (step c.args.words.now.table_id.slots (1 + q.1) 16777216 0 none) c.args.seat.now.me)) (λ i. (sym c.requires.picked i, sym (ap (λ (h : PinnedCell). h.cell) c.h.view_is) i)) (marks_cell p plan refl _ _ c.args.seat.now.me (pin_of c.args.h.now) c.requires.rests.1 (picks_pin (pin_of c.args.h.now) c.args.seat.now.me.0 c.requires.held)))
 
 pub returns-clause-seat : goal.returns-clause-seat
 returns-clause-seat g c = (search rules, search rules, number_as c.args.seat.now.me.0 c.fetch_or.new.seat.me.0 _ (c.fetch_or.ensures.2.1.is) refl)

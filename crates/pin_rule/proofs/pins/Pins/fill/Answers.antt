@@ -1,6 +1,11 @@
-use Rattle.std.proofs.Common.{ℕ, suc, ◌+◌, ◌*◌, ◌<◌, ◌≤◌, length, sym, subst, arith, mul-le-mul_right, suc-mul}
+use Rattle.std.proofs.Common.{◌≡◌, ℕ, suc, ◌+◌, ◌*◌, ◌<◌, ◌≤◌, Some, length, sym, subst, arith, mul-le-mul_right, suc-mul}
 use Rattle.cell_grid.specs.Pyramid.{cells_of, frame_of}
 use Rattle.cell_grid.proofs.FrameLemmas.{frame_bounds}
+use Rattle.pin_words.specs.declared.lane.Taken.{Taken}
+use Rattle.pin_words.specs.Plan.{lane_of}
+use Rattle.pin_words.specs.Cells.{IsDue, IsFilled}
+use Rattle.pin_rule.specs.Parts.{ClaimedCell, OwnSlot}
+use Rattle.pin_rule.specs.Calls.{view, plan_at}
 use Rattle.pin_rule.proofs.pins.Pins.fill.Goals as goal
 
 -- the frame of a slot lies below the end of all frames
@@ -13,7 +18,15 @@ fill_frame-requires-clause-seat g c =
     let levels = made.levels.value in
     let n = length c.args.values.now in
     let short : n ≤ frame_of levels = subst (λ (k : ℕ). k ≤ frame_of levels) (sym c.requires.values) (frame_bounds levels c.args.c.now.cell c.requires.claim.0) in
-    let fits = frame_fits (1 + cells_of levels + made.slots + length made.stores.value.items) c.args.s.now.slot (frame_of levels) made.slots n c.requires.slot.0 short in (
+    let inside = subst (λ (s : OwnSlot). s.slot < made.slots) (sym c.s.view_is) c.requires.slot.0 in
+    let fits = frame_fits (1 + cells_of levels + made.slots + length made.stores.value.items) c.s.inside.slot (frame_of levels) made.slots n inside short in (
       c.requires.pass.0,
       subst (λ (w : ℕ). c.frame_index-first.result + n ≤ w) (sym c.args.self.now.whole.word_count) (subst (λ (x : ℕ). x + n ≤ 1 + cells_of levels + made.slots + length made.stores.value.items + made.slots * frame_of levels) (sym c.frame_index-first.ensures.at) fits),
     )
+
+pub fill_frame-requires-clause-lane : goal.fill_frame-requires-clause-lane
+fill_frame-requires-clause-lane g c = let p = plan_at g.S.Store.contents c.args.self.now in let k = c.requires.lane in
+    subst (λ (x : ClaimedCell). (o : Taken _) × ((view c.args.pass.now).lane ≡ Some o) × (lane_of p x.cell ≡ o.lane) × IsDue p o x.cell c.args.values.now) (sym c.c.view_is) (k.0, k.1, k.3, k.4)
+
+pub returns-clause-done : goal.returns-clause-done
+returns-clause-done g c = subst (λ (x : ClaimedCell × OwnSlot). IsFilled (view c.args.pass.now) x.0.cell x.1.slot c.args.values.now c.fill_frame.new.seat.me.0) (λ i. (c.c.view_is i, c.s.view_is i)) c.fill_frame.ensures.done

@@ -1,15 +1,5 @@
-use Rattle.std.proofs.Common.{ℕ}
-use Rattle.cell_store.specs.MemStore.{contents_of}
-use Rattle.pin_rule.specs.declared.tests.quiet.Quiet.{Quiet}
-use Rattle.pin_rule.specs.Calls.{view, made_of}
-use Rattle.pin_rule.proofs.Trying.{quiet, may_fill, may_return, filled_lane}
+use Rattle.pin_rule.specs.Calls.{view}
 use Rattle.pin_rule.proofs.tests.steps.publish.Goals as goal
 
-abbrev faults : Quiet → ℕ
-faults s = (contents_of s.store).faults
-
-pub fill-requires-clause-lane : goal.fill-requires-clause-lane
-fill-requires-clause-lane c = may_fill faults (made_of c.args.pins.now) (view c.args.pass.now) c.args.claim.cell c.args.lane c.args.values.now c.requires.tried.2 c.requires.lane
-
 pub give_lane-requires-clause-fits : goal.give_lane-requires-clause-fits
-give_lane-requires-clause-fits c = may_return faults (made_of c.args.pins.now) (view c.fill.new.pass) c.args.lane (filled_lane (quiet faults (made_of c.args.pins.now)) (view c.args.pass.now) (view c.fill.new.pass) c.args.lane c.args.claim.cell c.args.slot.slot c.args.values.now c.requires.lane c.fill.ensures.done)
+give_lane-requires-clause-fits g c = c.requires.home (view c.fill.new.pass) c.fill.ensures.done
