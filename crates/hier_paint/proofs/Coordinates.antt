@@ -83,3 +83,7 @@ same_numbers (x ∷ xs) (y ∷ ys) e =
 pub none_without : {T : Type 0} (r : Option T) (P Q : Type 0) → (IsSome r ↔ P) → ((P → ⊥) → Q) → IfNone r Q
 none_without {T} None P Q h f = f (λ p. let some : is_some {T = T} None ≡ true = h.1 p in cc)
 none_without (Some x) P Q h f = tt
+
+pub none_outside : {T : Type 0} (r : Option T) (P Q : Type 0) → IfNone r P → (P → Q) → IfNone r Q
+none_outside None P Q h f = f h
+none_outside (Some x) P Q h f = tt

@@ -7,3 +7,5 @@ pub mod Pictures
 pub mod Framing
 pub mod Coordinates
 pub mod Walking
+pub mod Boxing
+pub mod Holding

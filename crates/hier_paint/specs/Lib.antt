@@ -3,6 +3,7 @@ pub mod Nearest
 pub mod Visits
 pub mod Ways
 pub mod Frames
+pub mod Boxes
 pub mod Hands
 pub mod Works
 pub mod Finding

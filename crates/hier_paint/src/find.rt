@@ -7,6 +7,7 @@ ghost use Rattle.hier_paint.specs.Visits.{IsLookedFor};
 ghost use Rattle.hier_paint.specs.Works.{Found, Fails};
 ghost use Rattle.hier_paint.specs.Finding.{IsFoundLook, IsFailedLook, IsAt};
 
+use crate::cell_box::CellBox;
 use crate::hand::{Hand, InHand, put};
 use cell_file::AcquireErr;
 use volatile_cell::{Eyes, Look};
@@ -21,10 +22,10 @@ pub fn find<E: Eyes>(
 ) -> Result<bool, AcquireErr>
     requires level { level < 8 }
     requires cell { cell < cells_of (E.levels eyes.old) }
-    requires fits { Fits E.held E.holds E.cell_of eyes.old hand.old.held }
+    requires fits { Fits E.levels E.held E.holds E.cell_of eyes.old hand.old.held }
     ensures found { IfOk result (λ ready. Found E.leads E.levels E.number E.viewer eyes.old (sight hand.old) level cell ready eyes.new (sight hand.new)) }
     ensures held { IfOk result (λ ready. ready ≡ true → cell_in hand.new.held ≡ Some cell) }
-    ensures fits { Fits E.held E.holds E.cell_of eyes.new hand.new.held }
+    ensures fits { Fits E.levels E.held E.holds E.cell_of eyes.new hand.new.held }
     ensures refused { IfErr result (λ err. Fails E.leads E.levels E.number E.viewer E.caused eyes.old (sight hand.old) eyes.new err (IsAt level cell)) }
     ensures emptied { OnErr result (hand.new.held ≡ None) }
 {
@@ -40,7 +41,7 @@ pub fn find<E: Eyes>(
 
 /// Gives back what is held.
 pub fn let_go<E: Eyes>(eyes: &mut E, hand: &mut Hand<E::Held>)
-    requires { Fits E.held E.holds E.cell_of eyes.old hand.old.held }
+    requires { Fits E.levels E.held E.holds E.cell_of eyes.old hand.old.held }
     ensures led { E.leads eyes.old (given_back (E.number eyes.old) (cell_in hand.old.held)) [] eyes.new }
     ensures free { E.held eyes.new ≡ 0 }
     ensures empty { hand.new.held ≡ None }
@@ -48,7 +49,11 @@ pub fn let_go<E: Eyes>(eyes: &mut E, hand: &mut Hand<E::Held>)
     ensures budget { hand.new.budget ≡ hand.old.budget }
 {
     if let Some(held) = hand.held.take() {
-        let InHand { cell: _, handle } = held;
+        let InHand {
+            cell: _,
+            bounds: _,
+            handle,
+        } = held;
         eyes.release(handle);
     }
 }
@@ -65,14 +70,22 @@ fn look<E: Eyes>(
     requires free { E.held eyes.old ≡ 0 }
     requires empty { hand.old.held ≡ None }
     ensures found { IfOk result (λ ready. IsFoundLook E.leads E.levels E.number E.viewer eyes.old (sight hand.old) level cell ready eyes.new (sight hand.new)) }
-    ensures fits { Fits E.held E.holds E.cell_of eyes.new hand.new.held }
+    ensures fits { Fits E.levels E.held E.holds E.cell_of eyes.new hand.new.held }
     ensures refused { IfErr result (λ err. IsFailedLook E.leads E.number E.caused eyes.old (sight hand.old) cell eyes.new err) }
     ensures emptied { OnErr result (hand.new.held ≡ None) }
 {
     match eyes.look(cell, &mut hand.budget) {
         Err(refusal) => Err(refusal),
         Ok(Look::Ready(handle)) => {
-            put(&mut hand.held, InHand { cell, handle });
+            let bounds = CellBox::of(eyes.geometry(), cell);
+            put(
+                &mut hand.held,
+                InHand {
+                    cell,
+                    bounds,
+                    handle,
+                },
+            );
             Ok(true)
         }
         Ok(Look::NotReady { state: _ }) => {
@@ -84,7 +97,7 @@ fn look<E: Eyes>(
 
 /// Opens the hand, and gives back what it holds.
 pub fn open_hand<E: Eyes>(eyes: &mut E, hand: Hand<E::Held>)
-    requires { Fits E.held E.holds E.cell_of eyes.old hand.held }
+    requires { Fits E.levels E.held E.holds E.cell_of eyes.old hand.held }
     ensures led { E.leads eyes.old (given_back (E.number eyes.old) (cell_in hand.held)) [] eyes.new }
     ensures free { E.held eyes.new ≡ 0 }
     ensures unmoved { hand.held ≡ None → eyes.new ≡ eyes.old }
@@ -95,7 +108,11 @@ pub fn open_hand<E: Eyes>(eyes: &mut E, hand: Hand<E::Held>)
         missed: _,
     } = hand;
     if let Some(held) = held {
-        let InHand { cell: _, handle } = held;
+        let InHand {
+            cell: _,
+            bounds: _,
+            handle,
+        } = held;
         eyes.release(handle);
     }
 }

@@ -1,15 +1,20 @@
 // The cell that a painter holds, and those that it found not ready.
-ghost use Rattle.std.specs.Prelude.{◌≡◌, ◌<◌, true, None, Some, slice_index_or};
+ghost use Rattle.std.specs.Prelude.{◌≡◌, ◌<◌, true, List, None, Some, IfSome, slice_index_or};
+ghost use Rattle.cell_grid.specs.declared.level.Level.{Level};
+ghost use Rattle.cell_grid.specs.Pyramid.{IsVoxelOf};
 ghost use Rattle.hier_paint.specs.Sight.{is_held, is_missed, opening};
-ghost use Rattle.hier_paint.specs.Hands.{sight};
+ghost use Rattle.hier_paint.specs.Hands.{IsBoxed, sight};
 
+use crate::cell_box::CellBox;
+use cell_grid::Place;
 use scale_pick::Strategy;
 use std::mem;
 use volatile_cell::Budget;
 
-/// A handle in the hand, and its cell.
+/// A handle in the hand, its cell, and the box of that.
 pub struct InHand<H> {
     pub cell: u32,
+    pub bounds: CellBox,
     pub handle: H,
 }
 
@@ -42,6 +47,18 @@ impl<H> Hand<H> {
             Some(held) => held.cell == cell,
             None => false,
         }
+    }
+
+    /// The place of a voxel of a level, where the cell that is held has it.
+    pub fn place(&self, level: u8, voxel: [u64; 3]) -> Option<Place>
+        ensures { (levels : List Level) → IsBoxed levels self.now.held → IfSome result (λ place. IsVoxelOf levels level voxel place.cell place.at) }
+    {
+        let held = self.held.as_ref()?;
+        let at = held.bounds.offset(level, voxel)?;
+        Some(Place {
+            cell: held.cell,
+            at,
+        })
     }
 
     /// Whether a cell is the last one that wasn't ready at a level.

@@ -1,6 +1,7 @@
 //! The painter of slices through a pyramid: each pixel shows the first level, from the wanted one on, that is ready.
 #![tactic(auto)]
 
+mod cell_box;
 mod find;
 mod hand;
 mod paint_rows;

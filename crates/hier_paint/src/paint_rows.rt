@@ -27,9 +27,9 @@ pub fn paint_rows<E: Eyes>(
     requires exists { wanted < length (E.levels eyes.old) }
     requires low { shades.low ≡ view.now.low }
     requires high { shades.high ≡ view.now.high }
-    requires fits { Fits E.held E.holds E.cell_of eyes.old hand.old.held }
+    requires fits { Fits E.levels E.held E.holds E.cell_of eyes.old hand.old.held }
     ensures painted { OnOk result (Works E.leads E.levels E.number E.viewer eyes.old (sight hand.old) eyes.new (sight hand.new) (AreRowWays (E.levels eyes.old) view.now picture.new picture.new.height)) }
-    ensures fits { Fits E.held E.holds E.cell_of eyes.new hand.new.held }
+    ensures fits { Fits E.levels E.held E.holds E.cell_of eyes.new hand.new.held }
     ensures refused { IfErr result (λ err. Fails E.leads E.levels E.number E.viewer E.caused eyes.old (sight hand.old) eyes.new err (IsCut (E.levels eyes.old) view.now picture.new)) }
     ensures emptied { OnErr result (hand.new.held ≡ None) }
     ensures width { picture.new.width ≡ picture.old.width }
@@ -62,10 +62,10 @@ fn paint_row<E: Eyes>(
     requires row { y < picture.old.height }
     requires low { shades.low ≡ view.now.low }
     requires high { shades.high ≡ view.now.high }
-    requires fits { Fits E.held E.holds E.cell_of eyes.old hand.old.held }
+    requires fits { Fits E.levels E.held E.holds E.cell_of eyes.old hand.old.held }
     ensures painted { OnOk result (Works E.leads E.levels E.number E.viewer eyes.old (sight hand.old) eyes.new (sight hand.new) (IsRowWay (E.levels eyes.old) view.now picture.new y picture.new.width)) }
     ensures before { SameBefore picture.old picture.new (place picture.old.width 0 y) }
-    ensures fits { Fits E.held E.holds E.cell_of eyes.new hand.new.held }
+    ensures fits { Fits E.levels E.held E.holds E.cell_of eyes.new hand.new.held }
     ensures refused { IfErr result (λ err. Fails E.leads E.levels E.number E.viewer E.caused eyes.old (sight hand.old) eyes.new err (IsRowCut (E.levels eyes.old) view.now picture.new y)) }
     ensures emptied { OnErr result (hand.new.held ≡ None) }
     ensures width { picture.new.width ≡ picture.old.width }

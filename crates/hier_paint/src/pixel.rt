@@ -46,9 +46,9 @@ pub fn pixel<E: Eyes>(
     requires row { y < 4096 }
     requires low { shades.low ≡ view.now.low }
     requires high { shades.high ≡ view.now.high }
-    requires fits { Fits E.held E.holds E.cell_of eyes.old hand.old.held }
+    requires fits { Fits E.levels E.held E.holds E.cell_of eyes.old hand.old.held }
     ensures painted { IfOk result (λ shot. Works E.leads E.levels E.number E.viewer eyes.old (sight hand.old) eyes.new (sight hand.new) (IsPixelWay (E.levels eyes.old) view.now x y shot.value shot.mask)) }
-    ensures fits { Fits E.held E.holds E.cell_of eyes.new hand.new.held }
+    ensures fits { Fits E.levels E.held E.holds E.cell_of eyes.new hand.new.held }
     ensures refused { IfErr result (λ err. Fails E.leads E.levels E.number E.viewer E.caused eyes.old (sight hand.old) eyes.new err (IsPixelCut (E.levels eyes.old) view.now x y)) }
     ensures emptied { OnErr result (hand.new.held ≡ None) }
 {
@@ -82,13 +82,13 @@ fn at_level<E: Eyes>(
     requires nearest { IsNearest (E.levels eyes.old) view.now.affine level x y voxel }
     requires low { shades.low ≡ view.now.low }
     requires high { shades.high ≡ view.now.high }
-    requires fits { Fits E.held E.holds E.cell_of eyes.old hand.old.held }
+    requires fits { Fits E.levels E.held E.holds E.cell_of eyes.old hand.old.held }
     ensures shown { IfOk result (λ value. Works E.leads E.levels E.number E.viewer eyes.old (sight hand.old) eyes.new (sight hand.new) (IsLevelWay (E.levels eyes.old) view.now x y level value)) }
-    ensures fits { Fits E.held E.holds E.cell_of eyes.new hand.new.held }
+    ensures fits { Fits E.levels E.held E.holds E.cell_of eyes.new hand.new.held }
     ensures refused { IfErr result (λ err. Fails E.leads E.levels E.number E.viewer E.caused eyes.old (sight hand.old) eyes.new err (IsLevelCut (E.levels eyes.old) view.now x y level)) }
     ensures emptied { OnErr result (hand.new.held ≡ None) }
 {
-    match place_of(eyes.geometry(), level, voxel) {
+    match place_of(eyes.geometry(), hand, level, voxel) {
         None => Ok(Some(0)),
         Some(place) => at_place(eyes, hand, shades, level, place),
     }
@@ -105,9 +105,9 @@ fn at_place<E: Eyes>(
     requires level { level < 8 }
     requires cell { place.cell < cells_of (E.levels eyes.old) }
     requires at { place.at < voxels_of (E.levels eyes.old) place.cell }
-    requires fits { Fits E.held E.holds E.cell_of eyes.old hand.old.held }
+    requires fits { Fits E.levels E.held E.holds E.cell_of eyes.old hand.old.held }
     ensures shown { IfOk result (λ value. Works E.leads E.levels E.number E.viewer eyes.old (sight hand.old) eyes.new (sight hand.new) (IsPlaceWay shades.low shades.high level place.cell place.at value)) }
-    ensures fits { Fits E.held E.holds E.cell_of eyes.new hand.new.held }
+    ensures fits { Fits E.levels E.held E.holds E.cell_of eyes.new hand.new.held }
     ensures refused { IfErr result (λ err. Fails E.leads E.levels E.number E.viewer E.caused eyes.old (sight hand.old) eyes.new err (IsAt level place.cell)) }
     ensures emptied { OnErr result (hand.new.held ≡ None) }
 {
@@ -125,9 +125,9 @@ fn at_place<E: Eyes>(
 fn read<E: Eyes>(eyes: &mut E, hand: &Hand<E::Held>, place: Place) -> u64
     requires holds { cell_in hand.now.held ≡ Some place.cell }
     requires inside { place.at < voxels_of (E.levels eyes.old) place.cell }
-    requires fits { Fits E.held E.holds E.cell_of eyes.old hand.now.held }
+    requires fits { Fits E.levels E.held E.holds E.cell_of eyes.old hand.now.held }
     ensures led { E.leads eyes.old (event.Read (E.number eyes.old) place.cell place.at result ∷ []) [] eyes.new }
-    ensures fits { Fits E.held E.holds E.cell_of eyes.new hand.now.held }
+    ensures fits { Fits E.levels E.held E.holds E.cell_of eyes.new hand.now.held }
 {
     match &hand.held {
         Some(held) => eyes.read(&held.handle, place.at),

@@ -17,7 +17,7 @@ use std::alloc::Global;
 pub enum Done {
     /// It read the levels of a pyramid.
     Levels(Geometry),
-    /// It ran a script, and could not write some of its pictures.
+    /// It ran a script; these pictures could not be written.
     Ran {
         report: Report,
         unwritten: Items<Unwritten>,

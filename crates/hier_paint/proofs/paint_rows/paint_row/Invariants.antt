@@ -12,7 +12,7 @@ invariant-loop-x g l =
       works : Works g.E.Eyes.leads g.E.Eyes.levels g.E.Eyes.number g.E.Eyes.viewer l.fn.eyes (sight l.fn.hand) l.eyes (sight l.hand) (IsRowWay (g.E.Eyes.levels l.fn.eyes) l.view l.picture l.y l.x);
       before : SameBefore l.fn.picture l.picture (place l.fn.picture.width 0 l.y);
       walk : IsWalk (g.E.Eyes.levels l.fn.eyes) l.view.affine l.wanted l.x l.y l.width l.walk;
-      fits : Fits g.E.Eyes.held g.E.Eyes.holds g.E.Eyes.cell_of l.eyes l.hand.held;
+      fits : Fits g.E.Eyes.levels g.E.Eyes.held g.E.Eyes.holds g.E.Eyes.cell_of l.eyes l.hand.held;
       same : g.E.Eyes.levels l.eyes ≡ g.E.Eyes.levels l.fn.eyes;
       width : l.picture.width ≡ l.fn.picture.width;
       height : l.picture.height ≡ l.fn.picture.height;

@@ -9,7 +9,7 @@ abbrev pub invariant-loop-y : goal.invariant-loop-y
 invariant-loop-y g l =
     record {
       works : Works g.E.Eyes.leads g.E.Eyes.levels g.E.Eyes.number g.E.Eyes.viewer l.fn.eyes (sight l.fn.hand) l.eyes (sight l.hand) (AreRowWays (g.E.Eyes.levels l.fn.eyes) l.view l.picture l.y);
-      fits : Fits g.E.Eyes.held g.E.Eyes.holds g.E.Eyes.cell_of l.eyes l.hand.held;
+      fits : Fits g.E.Eyes.levels g.E.Eyes.held g.E.Eyes.holds g.E.Eyes.cell_of l.eyes l.hand.held;
       same : g.E.Eyes.levels l.eyes ≡ g.E.Eyes.levels l.fn.eyes;
       width : l.picture.width ≡ l.fn.picture.width;
       height : l.picture.height ≡ l.fn.picture.height;

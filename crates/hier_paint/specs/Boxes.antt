@@ -1,0 +1,19 @@
+-- The boxes of cells.
+use Rattle.std.specs.Prelude.{◌≡◌, ℕ, ◌+◌, List, length, slice_index}
+use Rattle.voxel_box.specs.Box.{IsWithin}
+use Rattle.cell_grid.specs.declared.level.Level.{Level}
+use Rattle.cell_grid.specs.Pyramid.{sides_of, IsVoxelOf}
+use Rattle.hier_paint.specs.declared.cell_box.CellBox.{CellBox}
+
+-- a box is that of a cell: its lowest voxel is the cell's first, and its sides are the cell's
+pub record IsBoxOf (levels : List Level) (cell : ℕ) (b : CellBox) : Type 0 where
+  pub lowest : IsVoxelOf levels b.level b.low cell 0
+  pub sides_are : b.sides ≡ sides_of levels cell
+
+-- a voxel lies in a box of these sides, so far from its lowest one
+pub record IsInside (voxel low sides at : List ℕ) : Type 0 where
+  pub within : IsWithin at sides
+  pub three : length voxel ≡ 3
+  pub x : slice_index voxel 0 ≡ slice_index low 0 + slice_index at 0
+  pub y : slice_index voxel 1 ≡ slice_index low 1 + slice_index at 1
+  pub z : slice_index voxel 2 ≡ slice_index low 2 + slice_index at 2

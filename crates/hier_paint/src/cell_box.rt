@@ -1,0 +1,71 @@
+// The box of a cell.
+ghost use Rattle.std.specs.Prelude.{◌≡◌, ℕ, ◌+◌, ◌^◌, ◌<◌, ◌≤◌, List, IfSome};
+ghost use Rattle.voxel_box.specs.Box.{volume, number, IsWithin};
+ghost use Rattle.cell_grid.specs.declared.level.Level.{Level};
+ghost use Rattle.cell_grid.specs.Pyramid.{cells_of, IsVoxelOf};
+
+use cell_grid::{Geometry, Place};
+
+/// The box of a cell: its level, its lowest voxel there, and its sides in voxels.
+#[derive(Clone, Copy)]
+pub struct CellBox {
+    pub level: u8,
+    pub low: [u64; 3],
+    pub sides: [u32; 3],
+    ghost small: { volume sides ≤ 2 ^ 21 },
+}
+
+impl CellBox {
+    ghost use Rattle.hier_paint.specs.Boxes.{IsBoxOf, IsInside};
+
+    /// The box of a cell.
+    pub fn of(geometry: &Geometry, cell: u32) -> CellBox
+        requires { cell < cells_of geometry.now }
+        ensures { IsBoxOf geometry.now cell result }
+    {
+        let sides = geometry.sides(cell);
+        let (level, low) = geometry.pos_of(Place { cell, at: 0 });
+        CellBox { level, low, sides }
+    }
+
+    /// The offset in the cell of a voxel of a level, where that lies in the box.
+    pub fn offset(&self, level: u8, voxel: [u64; 3]) -> Option<u32>
+        ensures { (levels : List Level) (cell : ℕ) → IsBoxOf levels cell self.now → IfSome result (λ at. IsVoxelOf levels level voxel cell at) }
+    {
+        if level != self.level {
+            return None;
+        }
+        let at = self.inside(voxel)?;
+        Some(number(at, self.sides))
+    }
+
+    /// The position of a voxel in the box, where it lies there.
+    fn inside(&self, voxel: [u64; 3]) -> Option<[u32; 3]>
+        ensures { IfSome result (λ at. IsInside voxel self.now.low self.now.sides at) }
+    {
+        let x = along(voxel[0], self.low[0], self.sides[0])?;
+        let y = along(voxel[1], self.low[1], self.sides[1])?;
+        let z = along(voxel[2], self.low[2], self.sides[2])?;
+        Some([x, y, z])
+    }
+}
+
+/// How far a coordinate is from the low one, where that is below the side.
+fn along(coordinate: u64, low: u64, side: u32) -> Option<u32>
+    ensures at { IfSome result (λ at. coordinate ≡ low + at) }
+    ensures below { IfSome result (λ at. at < side) }
+{
+    if coordinate < low || coordinate - low >= side as u64 {
+        return None;
+    }
+    Some((coordinate - low) as u32)
+}
+
+/// The number of a position inside a box of at most 2^21 voxels.
+fn number(at: [u32; 3], sides: [u32; 3]) -> u32
+    requires within { IsWithin at sides }
+    requires small { volume sides ≤ 2 ^ 21 }
+    ensures { result ≡ number at sides }
+{
+    at[0] + sides[0] * (at[1] + sides[1] * at[2])
+}
