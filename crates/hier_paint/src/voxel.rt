@@ -74,12 +74,7 @@ fn nearest_voxel(level: &Level, affine: &Affine, x: u32, y: u32) -> [i64; 3]
 }
 
 /// The place of a pixel's nearest voxel, where that is inside the level.
-pub fn place_of<H>(
-    geometry: &Geometry,
-    hand: &Hand<H>,
-    level: u8,
-    voxel: [i64; 3],
-) -> Option<Place>
+pub fn place_of<H>(geometry: &Geometry, hand: &Hand<H>, level: u8, voxel: [i64; 3]) -> Option<Place>
     requires small { IsSmall voxel }
     requires boxed { IsBoxed geometry.now hand.now.held }
     ensures inside { (affine : Map) (x y : ℕ) → IsNearest geometry.now affine level x y voxel → IfSome result (λ place. HasVoxel geometry.now affine level x y place.cell place.at) }
@@ -94,12 +89,7 @@ pub fn place_of<H>(
 }
 
 /// The place of a voxel, where it is inside the level: by the box of the cell that is held, or by divisions.
-fn place_at<H>(
-    geometry: &Geometry,
-    hand: &Hand<H>,
-    level: u8,
-    voxel: [u64; 3],
-) -> Option<Place>
+fn place_at<H>(geometry: &Geometry, hand: &Hand<H>, level: u8, voxel: [u64; 3]) -> Option<Place>
     requires { IsBoxed geometry.now hand.now.held }
     ensures outside { (shape : Level) → slice_get geometry.now level ≡ Some shape → IfNone result (¬ IsWithin voxel shape.extent.dims) }
     ensures voxel { IfSome result (λ place. IsVoxelOf geometry.now level voxel place.cell place.at) }
