@@ -4,8 +4,9 @@
     tools/check_program.py [PROGRAM]        (PROGRAM is crates/viewrun/out/viewrun, which a whole `rt ci` leaves there)
 
 It shows what no contract can say, since a folder is outside: an edit survives its eviction and a second run; a file where
-the folder of edited cells should be is a fault that changes no other file; scripts without a last line end, without a byte,
-and of one byte too many get their statuses at once. No part of the gate.
+the folder of edited cells should be is a fault that changes no other file; a view's picture is written, and put again over
+an old one that was longer; where the folder of pictures can't be, the picture is named; scripts without a last line end,
+without a byte, and of one byte too many get their statuses at once. No part of the gate.
 """
 import os
 import subprocess
@@ -15,6 +16,7 @@ import tempfile
 TOP = os.path.dirname(os.path.dirname(os.path.abspath(__file__)))
 HEAD = "raw vol uint8 6 2 2 2 2 2\n"
 EDITED = bytes.fromhex("000000030000000200000002000000020900000000000000")
+UNIT = "1 1 0 0 0 1 0 0 0 0\n"
 NOTHING = "tally hits 0 misses 0 loads 0 evictions 0 writebacks 0 closed 0\n"
 
 
@@ -39,6 +41,9 @@ class Folder:
                 with open(path, "rb") as file:
                     found[os.path.relpath(path, self.path)] = file.read()
         return found
+
+    def pictures(self):
+        return {name: data for name, data in self.files().items() if name.startswith("views")}
 
     def run(self, script, status, text):
         self.write("script", script)
@@ -80,6 +85,33 @@ def a_put_that_fails_names_the_cell(program):
     expect("the files", {name: data for name, data in folder.files().items() if name != "script"}, {"other": b"stays"})
 
 
+def a_picture_is_put_again(program):
+    folder = Folder(program)
+    os.makedirs(os.path.join(folder.path, "vol/0/0"))
+    folder.write("vol/0/0/0", bytes.fromhex("0000000300000002000000020000000201ff000a00000000"))
+    text = "0.0.0 frame level 0 complete\ntally hits 0 misses 1 loads 1 evictions 0 writebacks 0 closed 1\n"
+    folder.run(HEAD + "phase\nactor\nview a_1 2 2 0 blocking " + UNIT, 0, text)
+    expect("the pictures", folder.pictures(), {"views/a_1.pgm": b"P5\n2 2\n255\n\x01\xff\x00\x0a"})
+    folder.write("views/other", "stays")
+    text = "0.0.0 done\n0.0.1 frame level 0 complete\ntally hits 1 misses 1 loads 1 evictions 0 writebacks 1 closed 1\n"
+    folder.run(HEAD + "phase\nactor\nset 0 0 0 0 7\nview a_1 1 1 0 blocking " + UNIT, 0, text)
+    expect("the pictures", folder.pictures(), {"views/a_1.pgm": b"P5\n1 1\n255\n\x07", "views/other": b"stays"})
+    # a view of a level that isn't there puts no picture
+    folder.run(HEAD + "phase\nactor\nview a_1 2 2 1 blocking " + UNIT, 1, "0.0.0 refused outside\n" + NOTHING)
+    expect("the pictures", folder.pictures(), {"views/a_1.pgm": b"P5\n1 1\n255\n\x07", "views/other": b"stays"})
+
+
+def a_picture_that_fails_is_named(program):
+    folder = Folder(program)
+    folder.write("views", "not a folder")
+    commands = f"phase\nactor\nset 0 0 0 0 9\nview b 1 1 0 blocking {UNIT}view a 1 1 0 dontload {UNIT}get 7 0 0 0\n"
+    replies = "0.0.0 done\n0.0.1 frame level 0 complete\n0.0.2 frame level 0 complete\n0.0.3 refused outside\n"
+    tally = "tally hits 2 misses 1 loads 1 evictions 0 writebacks 1 closed 1\n"
+    folder.run(HEAD + commands, 5, replies + tally + "unwritten b write-fault\nunwritten a write-fault\n")
+    expect("the pictures", folder.pictures(), {"views": b"not a folder"})
+    expect("the edited cell", folder.files()["cells/s0/0/0/0"], EDITED)
+
+
 def scripts_get_their_statuses(program):
     folder = Folder(program)
     folder.run(HEAD.rstrip("\n"), 0, NOTHING)
@@ -93,6 +125,8 @@ def main():
     an_edit_survives(program)
     a_file_in_place_of_a_folder_is_a_fault(program)
     a_put_that_fails_names_the_cell(program)
+    a_picture_is_put_again(program)
+    a_picture_that_fails_is_named(program)
     scripts_get_their_statuses(program)
     print("the program over real folders: as it is to be")
 
