@@ -1,7 +1,7 @@
 #!/usr/bin/env python3
 """Compares the built program with tools/solo_reference.py over small random volumes, pyramids and scripts.
 
-    tools/random_scripts.py [--runs 400] [--seed 1] [PROGRAM]        (PROGRAM is crates/viewrun/out/viewrun)
+    tools/random_scripts.py [--runs 200] [--seed 1] [PROGRAM]        (PROGRAM is crates/viewrun/out/viewrun)
 
 A folder holds one volume, some of whose blocks are missing, broken or of the sizes that an end of an axis allows, and at
 times a file or a dangling link where a folder should be. Two scripts run in it, one after the other, the second one over
@@ -205,7 +205,7 @@ def compare(program, seed, top, seen):
         found, text = difference(program, script, slots, before, after)
         if found:
             script = least(program, script, slots, before, after)
-            print(f"seed {seed}, script {again + 1}, --slots {slots}, folder {before}\n{script}{difference(program, script, slots, before, after)[0]}")
+            print(f"seed {seed}, script {again + 1}, --slots {slots}, folder {before}\n{script}{difference(program, script, slots, before, after)[0]}", flush=True)
             return False
         seen.update(text.split())
         seen.update(word for word in script.split() if word in STRATEGIES)
@@ -218,7 +218,7 @@ def compare(program, seed, top, seen):
 def main():
     words = argparse.ArgumentParser()
     words.add_argument("program", nargs="?", default=os.path.join(TOP, "crates/viewrun/out/viewrun"))
-    words.add_argument("--runs", type=int, default=400)
+    words.add_argument("--runs", type=int, default=200)
     words.add_argument("--seed", type=int, default=1)
     words = words.parse_args()
     program, top, seen = os.path.abspath(words.program), tempfile.mkdtemp(), collections.Counter()
