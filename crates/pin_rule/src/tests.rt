@@ -4,5 +4,6 @@ mod hand;
 mod live;
 mod quiet;
 mod steps;
+mod saving;
 mod telling;
 mod threads;

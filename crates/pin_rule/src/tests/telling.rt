@@ -15,7 +15,7 @@ use std::process::Abort;
 use std::test::Fail;
 
 /// Loads a claimed cell with the lane.
-fn load(
+pub fn load(
     rt: &impl Abort,
     alloc: Global,
     grid: &Grid,
