@@ -58,8 +58,7 @@ pub fn let_go<E: Eyes>(eyes: &mut E, hand: &mut Hand<E::Held>)
     }
 }
 
-/// Looks at a cell with an empty hand, and holds it where it is ready. Out of line, since few pixels come here.
-#[inline(never)]
+/// Looks at a cell with an empty hand, and holds it where it is ready.
 fn look<E: Eyes>(
     eyes: &mut E,
     hand: &mut Hand<E::Held>,

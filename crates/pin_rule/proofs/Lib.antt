@@ -1,6 +1,5 @@
 pub mod Finds
 pub mod Resting
-pub mod Saving
 pub mod AtWords
 pub mod Fills
 pub mod LaneSeats

@@ -30,17 +30,17 @@ use Rattle.pin_rule.specs.Parts.{OwnLane}
 use Rattle.pin_rule.specs.Plans.{plan_of}
 use Rattle.pin_rule.specs.Calls.{MayFill, MayReturn}
 
-pub some_is : {A : Type 0} (a b : A) → Some a ≡ Some b → a ≡ b
+some_is : {A : Type 0} (a b : A) → Some a ≡ Some b → a ≡ b
 some_is a b e = cc
 
-pub none_some : {A B : Type 0} (a : A) → None ≡ Some a → B
+none_some : {A B : Type 0} (a : A) → None ≡ Some a → B
 none_some a e = absurd (true≢false (ap is_none e))
 
 pub first_store : {A : Type 0} (xs : List A) → length xs ≡ 1 → (x : A) × (get_elem? xs 0 ≡ some x)
 first_store [] e = absurd (omega arith)
 first_store (x ∷ xs) e = (x, refl)
 
-pub counted_one : (p : Entry → Bool) (log : List Entry) (e : Entry) → count_by p (log ++ e ∷ []) ≡ count_by p log + cond (p e) 1 0
+counted_one : (p : Entry → Bool) (log : List Entry) (e : Entry) → count_by p (log ++ e ∷ []) ≡ count_by p log + cond (p e) 1 0
 counted_one p log e = let a = count_by-append p log (e ∷ []) in let b = sum_by-cons (λ x. cond (p x) 1 0) e [] in omega (arith, a, b)
 
 counted_two : (p : Entry → Bool) (log : List Entry) (e f : Entry) → count_by p (log ++ e ∷ f ∷ []) ≡ count_by p log + cond (p e) 1 0 + cond (p f) 1 0
@@ -50,7 +50,7 @@ counted_two p log e f =
     let c = sum_by-cons (λ x. cond (p x) 1 0) f [] in
     omega (arith, a, b, c)
 
-pub same_key : (key : List ℕ) → bytes_eq key key ≡ true
+same_key : (key : List ℕ) → bytes_eq key key ≡ true
 same_key key = (bytes_eq-Decides key key).1 refl
 
 -- gets alone were logged, and one at least of the key

@@ -4,6 +4,5 @@ mod hand;
 mod live;
 mod quiet;
 mod steps;
-mod saving;
 mod telling;
 mod threads;

@@ -1,4 +1,3 @@
 pub mod Filling
-pub mod Lanes
 pub mod Ones
 pub mod Shown

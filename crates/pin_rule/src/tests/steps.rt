@@ -2,8 +2,7 @@
 ghost use Rattle.std.specs.Prelude.{◌≡◌, ℕ, ◌<◌, ◌≤◌, true, false, None, length, slice_index};
 ghost use Rattle.cell_grid.specs.Pyramid.{cells_of};
 ghost use Rattle.pin_words.specs.declared.doing.Doing.{Doing};
-ghost use Rattle.pin_words.specs.Finding.{left_of};
-ghost use Rattle.pin_words.specs.Cells.{IsFilled, IsFrameNumber};
+ghost use Rattle.pin_words.specs.Cells.{IsFilled};
 ghost use Rattle.pin_rule.specs.Calls.{view, plan_at, made_of, cell_count, slot_count, lane_count, voxel_count, greatest_in, IsPassOf, MayFill, MayReturn};
 ghost use Rattle.pin_rule.specs.Trying.{SameRoster, StaysBare, IsLoading, IsUsing, IsLeaving, HasLane, IsSmall, IsTried};
 
@@ -51,11 +50,11 @@ pub fn publish<S: Store>(
 }
 
 /// The numbers of a closed cell.
-pub fn frame<S: Store>(
+pub fn frame(
     rt: &impl Abort,
     geometry: &Geometry,
-    pins: &Pins<S>,
-    pass: &mut Pass<S>,
+    pins: &Pins<Quiet>,
+    pass: &mut Pass<Quiet>,
     leaving: &Leaving,
 ) -> [u64; 8]
     requires pass { IsPassOf pins.now pass.old }
@@ -63,7 +62,6 @@ pub fn frame<S: Store>(
     requires leaving { (leaving.now.cell < cell_count pins.now) × (leaving.now.slot < slot_count pins.now) × IsLeaving leaving.now.cell leaving.now.slot leaving.now.marked (view pass.old) }
     ensures pass { IsPassOf pins.now pass.new × (view pass.new ≡ view pass.old) }
     ensures bytes { (i : ℕ) → slice_index result i ≤ 255 }
-    ensures numbers { (i : ℕ) → i < 8 → IsFrameNumber (plan_at S.contents pins.now) (left_of leaving.now.cell (view pass.old)) i (slice_index result i) }
 {
     measure(rt, geometry, leaving.cell());
     let mut values = [0u64; 8];
@@ -78,7 +76,7 @@ fn let_go(pins: &Pins<Quiet>, pass: &mut Pass<Quiet>, leaving: Leaving, lane: La
     requires pass { IsPassOf pins.now pass.old }
     requires tried { (leaving.cell < cell_count pins.now) × (leaving.slot < slot_count pins.now) × (lane_count pins.now ≡ 1) }
     requires leaving { (leaving.marked ≡ true) × IsLeaving leaving.cell leaving.slot true (view pass.old) }
-    requires lane { HasLane ⟦<Quiet as Store>⟧.contents 0 lane (view pass.old) }
+    requires lane { HasLane ⟦<Quiet as Store>⟧.contents lane (view pass.old) }
     ensures pass { IsPassOf pins.now pass.new × StaysBare (view pass.old) (view pass.new) }
 {
     let slot = pins.gone(pass, leaving, Some(&lane));
@@ -98,7 +96,7 @@ pub fn turn_out(
     requires pass { IsPassOf pins.now pass.old }
     requires tried { IsTried grid.now.0 grid.now.1 pins.now × (leaving.cell < 3) × (leaving.slot < 2) }
     requires leaving { (leaving.marked ≡ true) × IsLeaving leaving.cell leaving.slot true (view pass.old) }
-    requires lane { HasLane ⟦<Quiet as Store>⟧.contents 0 lane (view pass.old) }
+    requires lane { HasLane ⟦<Quiet as Store>⟧.contents lane (view pass.old) }
     ensures pass { IsPassOf pins.now pass.new × StaysBare (view pass.old) (view pass.new) }
 {
     let (geometry, keys) = grid;

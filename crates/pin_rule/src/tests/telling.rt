@@ -15,7 +15,7 @@ use std::process::Abort;
 use std::test::Fail;
 
 /// Loads a claimed cell with the lane.
-pub fn load(
+fn load(
     rt: &impl Abort,
     alloc: Global,
     grid: &Grid,

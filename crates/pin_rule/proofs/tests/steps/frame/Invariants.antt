@@ -1,10 +1,7 @@
-use Rattle.std.proofs.Common.{◌≡◌, ◌<◌, ◌≤◌, ℕ}
+use Rattle.std.proofs.Common.{◌≡◌, ◌≤◌, ℕ}
 use Rattle.std.specs.Prelude.{slice_index}
-use Rattle.pin_words.specs.Cells.{IsFrameNumber}
-use Rattle.pin_words.specs.Finding.{left_of}
-use Rattle.pin_rule.specs.Calls.{view, plan_at, IsPassOf}
+use Rattle.pin_rule.specs.Calls.{view, IsPassOf}
 use Rattle.pin_rule.proofs.tests.steps.frame.Given as goal
 
 abbrev pub invariant-loop-at : goal.invariant-loop-at
 invariant-loop-at g l = IsPassOf l.pins l.pass × (view l.pass ≡ view l.fn.pass) × ((i : ℕ) → slice_index l.values i ≤ 255)
-    × ((i : ℕ) → i < l.at → IsFrameNumber (plan_at g.S.Store.contents l.pins) (left_of l.leaving.cell (view l.fn.pass)) i (slice_index l.values i))
