@@ -1,13 +1,15 @@
 #!/usr/bin/env python3
-"""Times pins, reads, writes, fills and rounds of pin_rule's table, beside the same steps with Rust's own atomics.
+"""Times pins, reads, writes, fills, rounds and visits of pin_rule's table, beside the same steps with Rust's own atomics.
 
     bench/pins.py [PROGRAM]        (PROGRAM is crates/pin_time/out/pin_time, which a whole `rt ci` leaves there)
 
-`one` is one thread, `same` two threads with one cell, `other` two threads with a cell each. Each time is the least of five
-runs of many rounds, less the least of five runs of none, for a round of each thread; that of `fill` is for each of the 64
-voxels of a frame. What the runs print is compared. Where there is a rustc, bench/atomics.rs is built with -O into a folder
-that is removed at the end, and timed by turns with PROGRAM. Two threads are timed only where there are two processors. No
-part of the gate.
+`one` is one thread, `same` two threads with one cell, `other` two threads with a cell each, and with a slot and a lane each
+where they fill. A claim is one pass's alone: beside a fill or a round of the `same` cell the second thread visits it, 16 times
+in each round of the first, which alone takes half as long; a visit of a cell that isn't live misses. Each time is the least
+of five runs of many rounds, less the least of five runs of none, for a round of each thread; that of `fill` is for each of the
+64 voxels of a frame, and that of `visit` for each of the 16 visits of an absent cell. What the runs print is compared. Where
+there is a rustc, bench/atomics.rs is built with -O into a folder that is removed at the end, and timed by turns with PROGRAM.
+Two threads are timed only where there are two processors. No part of the gate.
 """
 import os
 import shutil
@@ -18,9 +20,11 @@ import time
 
 TOP = os.path.dirname(os.path.dirname(os.path.abspath(__file__)))
 RUNS = 5
-VOXELS = 64
-ROUNDS = {"pin": 10_000_000, "read": 50_000_000, "write": 20_000_000, "fill": 300_000, "round": 200_000}
-CASES = [(what, hands) for what in ("pin", "read", "write") for hands in ("one", "same", "other")] + [("fill", "one"), ("round", "one")]
+VISITS = 16
+# how often it is done in a round
+TIMES = {"pin": 1, "read": 1, "write": 1, "fill": 64, "round": 1, "visit": VISITS}
+ROUNDS = {"pin": 10_000_000, "read": 50_000_000, "write": 20_000_000, "fill": 300_000, "round": 200_000, "visit": 500_000}
+CASES = [(what, hands) for what in ("pin", "read", "write", "fill", "round") for hands in ("one", "same", "other")] + [("visit", "one")]
 
 
 def seconds(program, what, hands, rounds):
@@ -32,11 +36,12 @@ def seconds(program, what, hands, rounds):
 
 def wanted(what, hands, rounds):
     """What a run prints."""
-    return rounds * (1 if hands == "one" else 2) * (VOXELS if what == "fill" else 1)
+    beside = VISITS if what in ("fill", "round") else TIMES[what]
+    return rounds * (TIMES[what] + {"one": 0, "same": beside, "other": TIMES[what]}[hands])
 
 
 def nanoseconds(programs, what, hands):
-    """For each program the nanoseconds of a round, or of a voxel that is filled. The programs run by turns."""
+    """For each program the nanoseconds of a round, of a voxel that is filled, or of a visit. The programs run by turns."""
     best = {(program, rounds): float("inf") for program in programs for rounds in (0, ROUNDS[what])}
     for _ in range(RUNS):
         for program, rounds in best:
@@ -44,7 +49,7 @@ def nanoseconds(programs, what, hands):
             if printed != wanted(what, hands, rounds):
                 sys.exit(f"{program} {what} {hands} {rounds} printed {printed}")
             best[program, rounds] = min(best[program, rounds], taken)
-    count = ROUNDS[what] * (VOXELS if what == "fill" else 1)
+    count = ROUNDS[what] * TIMES[what]
     return [(best[program, ROUNDS[what]] - best[program, 0]) / count * 1e9 for program in programs]
 
 

@@ -1,4 +1,4 @@
--- How a caller that works with one cell at a time meets the conditions of the calls on a lane, where its table has one and its store tells nothing: the tests, and a program that times the calls.
+-- How a caller that works with one cell at a time meets the conditions of the calls on a lane, where its store tells nothing: the tests, and a program that times the calls.
 use Rattle.std.proofs.Common.{◌≡◌, ℕ, ◌%◌, ◌≤◌, ◌==◌, cond, Bool, true, false, true≢false, List, [], ◌∷◌, length, Option, Some, None, sym, refl, ap, ◌∙◌, subst, arith, eq-eqb}
 use Rattle.std.specs.Prelude.{IsTrue}
 use Rattle.std.proofs.Math.Nat.{mod-one}
@@ -8,7 +8,7 @@ use Rattle.pin_words.specs.declared.holding.Left.{Left}
 use Rattle.pin_words.specs.declared.lane.Taken.{Taken}
 use Rattle.pin_words.specs.declared.lane.Change.{Change}
 use Rattle.pin_words.specs.declared.doing.Doing.{Doing}
-use Rattle.pin_words.specs.Plan.{Plan, lane_of}
+use Rattle.pin_words.specs.Plan.{Plan}
 use Rattle.pin_words.specs.Finding.{has_left, left_of, lefts_without}
 use Rattle.pin_words.specs.Ends.{IsBare}
 use Rattle.pin_words.specs.Cells.{left, change, noted, GivesSlot, IsClosed, IsGone, IsBack, IsFilled}
@@ -34,28 +34,29 @@ module _ {S : Type 0} (faults : S → ℕ) (m : Made S) where
   abbrev pub quiet : S → Contents
   quiet s = untold (faults s)
 
-  the_lane : (c : ℕ) (o : Taken S) → length m.stores.value.items ≡ 1 → o.lane ≡ 0 → lane_of (plan_of quiet (Some m)) c ≡ o.lane
-  the_lane c o one z = subst (λ n. c % n ≡ o.lane) (sym one) (mod-one c ∙ sym z)
+  -- where there is one lane, it is that of each cell
+  pub sole_lane : (c : ℕ) → length m.stores.value.items ≡ 1 → c % length m.stores.value.items ≡ 0
+  sole_lane c one = subst (λ n. c % n ≡ 0) (sym one) (mod-one c)
 
-  pub may_fill : (d : Doing S (Option (Made S))) (c : ℕ) (lane : OwnLane S) (values : List ℕ) → length m.stores.value.items ≡ 1 → HasLane quiet lane d → MayFill (plan_of quiet (Some m)) d c lane values
-  may_fill d c lane values one h = let o = h.taken.0 in (o, h.taken.1, h.number ∙ sym h.taken.2, the_lane c o one h.taken.2, λ t. untold_never t, λ t. untold_never t)
+  pub may_fill : (d : Doing S (Option (Made S))) (c l : ℕ) (lane : OwnLane S) (values : List ℕ) → c % length m.stores.value.items ≡ l → HasLane quiet l lane d → MayFill (plan_of quiet (Some m)) d c lane values
+  may_fill d c l lane values own h = let o = h.taken.0 in (o, h.taken.1, h.number ∙ sym h.taken.2, own ∙ sym h.taken.2, λ t. untold_never t, λ t. untold_never t)
 
-  pub may_save : (d : Doing S (Option (Made S))) (c : ℕ) (lane : OwnLane S) → length m.stores.value.items ≡ 1 → HasLane quiet lane d → MaySave (plan_of quiet (Some m)) d c lane
-  may_save d c lane one h = let o = h.taken.0 in (o, h.taken.1, h.number ∙ sym h.taken.2, the_lane c o one h.taken.2, λ t. untold_never t)
+  pub may_save : (d : Doing S (Option (Made S))) (c l : ℕ) (lane : OwnLane S) → c % length m.stores.value.items ≡ l → HasLane quiet l lane d → MaySave (plan_of quiet (Some m)) d c lane
+  may_save d c l lane own h = let o = h.taken.0 in (o, h.taken.1, h.number ∙ sym h.taken.2, own ∙ sym h.taken.2, λ t. untold_never t)
 
-  pub may_return : (d : Doing S (Option (Made S))) (lane : OwnLane S) → HasLane quiet lane d → MayReturn (plan_of quiet (Some m)) d lane
-  may_return d lane h = let o = h.taken.0 in (o, h.taken.1, h.number ∙ sym h.taken.2, record { told = refl; told_log = refl; never_falls = h.taken.3; arrays = λ t. untold_never t; voids = λ t. untold_never t; keys = λ t. untold_never t; puts = λ t. untold_never t; gets = λ t. untold_never t })
+  pub may_return : (d : Doing S (Option (Made S))) (l : ℕ) (lane : OwnLane S) → HasLane quiet l lane d → MayReturn (plan_of quiet (Some m)) d lane
+  may_return d l lane h = let o = h.taken.0 in (o, h.taken.1, h.number ∙ sym h.taken.2, record { told = refl; told_log = refl; never_falls = h.taken.3; arrays = λ t. untold_never t; voids = λ t. untold_never t; keys = λ t. untold_never t; puts = λ t. untold_never t; gets = λ t. untold_never t })
 
 module _ {S : Type 0} (shows : S → Contents) where
   -- the lane is there after a taking, another look at its store, and a fill
-  pub took_lane : {M : Type 0} (p : Plan S M) (d d' : Doing S M) (lane : OwnLane S) → lane.lane ≡ 0 → TakesLane p d 0 lane.store d' → HasLane shows lane d'
-  took_lane p d d' lane z t = record { number = z; taken = (_, ap (λ x. x.lane) t.sees.is, refl, le_self (shows lane.store).faults) }
+  pub took_lane : {M : Type 0} (p : Plan S M) (d d' : Doing S M) (l : ℕ) (lane : OwnLane S) → lane.lane ≡ l → TakesLane p d l lane.store d' → HasLane shows l lane d'
+  took_lane p d d' l lane z t = record { number = z; taken = (_, ap (λ x. x.lane) t.sees.is, refl, le_self (shows lane.store).faults) }
     where
       le_self : (n : ℕ) → n ≤ n
       le_self n = omega arith
 
-  pub used_lane : {M : Type 0} (d : Doing S M) (lane inside : OwnLane S) (store : S) → HasLane shows lane d → inside ≡ lane → (shows inside.store).faults ≤ (shows store).faults → HasLane shows (record inside { store = store }) d
-  used_lane d lane inside store h is more = let k = subst (λ (l : OwnLane S). HasLane shows l d) (sym is) h in record { number = k.number; taken = (k.taken.0, k.taken.1, k.taken.2, le_trans' (shows k.taken.0.store).faults (shows inside.store).faults (shows store).faults k.taken.3 more) }
+  pub used_lane : {M : Type 0} (d : Doing S M) (l : ℕ) (lane inside : OwnLane S) (store : S) → HasLane shows l lane d → inside ≡ lane → (shows inside.store).faults ≤ (shows store).faults → HasLane shows l (record inside { store = store }) d
+  used_lane d l lane inside store h is more = let k = subst (λ (q : OwnLane S). HasLane shows l q d) (sym is) h in record { number = k.number; taken = (k.taken.0, k.taken.1, k.taken.2, le_trans' (shows k.taken.0.store).faults (shows inside.store).faults (shows store).faults k.taken.3 more) }
     where
       le_trans' : (a b c : ℕ) → a ≤ b → b ≤ c → a ≤ c
       le_trans' a b c x y = omega arith
@@ -63,8 +64,8 @@ module _ {S : Type 0} (shows : S → Contents) where
   same_some : (x y : Taken S) → Some x ≡ Some y → x ≡ y
   same_some x y e = cc
 
-  pub filled_lane : {M : Type 0} (d d' : Doing S M) (lane : OwnLane S) (c s : ℕ) (values : List ℕ) → HasLane shows lane d → IsFilled d c s values d' → HasLane shows lane d'
-  filled_lane d d' lane c s values h f = let same = same_some f.0 h.taken.0 (sym f.1 ∙ h.taken.1) in
+  pub filled_lane : {M : Type 0} (d d' : Doing S M) (l : ℕ) (lane : OwnLane S) (c s : ℕ) (values : List ℕ) → HasLane shows l lane d → IsFilled d c s values d' → HasLane shows l lane d'
+  filled_lane d d' l lane c s values h f = let same = same_some f.0 h.taken.0 (sym f.1 ∙ h.taken.1) in
       record { number = h.number; taken = (record f.0 { fills = c ∷ f.0.fills }, ap (λ x. x.lane) f.2, ap (λ (o : Taken S). o.lane) same ∙ h.taken.2, subst (λ (o : Taken S). (shows o.store).faults ≤ (shows lane.store).faults) (sym same) h.taken.3) }
 
 module _ {S M : Type 0} (p : Plan S M) where
@@ -90,21 +91,21 @@ module _ {S M : Type 0} (c s : ℕ) (mark : Bool) where
   found_left d h = let o = one_left h.leaving.0 d h.leaving.1 in (o.0, ap (λ (q : Left). q.slot) o.1, ap (λ (q : Left). q.marked) o.1, ap (λ (q : Left). q.cell) o.1)
 
 module _ {S M : Type 0} (shows : S → Contents) where
-  pub kept_lane : (d d' : Doing S M) (s : ℕ) (lane : OwnLane S) → HasLane shows lane d → GivesSlot d s d' → HasLane shows lane d'
-  kept_lane d d' s lane h g = record { number = h.number; taken = (h.taken.0, ap (λ x. x.lane) g ∙ h.taken.1, h.taken.2, h.taken.3) }
+  pub kept_lane : (d d' : Doing S M) (s l : ℕ) (lane : OwnLane S) → HasLane shows l lane d → GivesSlot d s d' → HasLane shows l lane d'
+  kept_lane d d' s l lane h g = record { number = h.number; taken = (h.taken.0, ap (λ x. x.lane) g ∙ h.taken.1, h.taken.2, h.taken.3) }
 
   -- when a marked cell is gone, the lane is still there
-  pub went_lane : (p : Plan S M) (d d' : Doing S M) (c s : ℕ) (lane : OwnLane S) → IsLeaving c s true d → HasLane shows lane d → IsGone p d c d' → HasLane shows lane d'
-  went_lane p d d' c s lane l h g = let o = one_left c s true l.leaving.0 d l.leaving.1 in record {
+  pub went_lane : (p : Plan S M) (d d' : Doing S M) (c s l : ℕ) (lane : OwnLane S) → IsLeaving c s true d → HasLane shows l lane d → IsGone p d c d' → HasLane shows l lane d'
+  went_lane p d d' c s l lane q h g = let o = one_left c s true q.leaving.0 d q.leaving.1 in record {
     number = h.number;
     taken = (
-      record h.taken.0 { changes = change c true l.leaving.0 ∷ h.taken.0.changes },
-      ap (λ x. x.lane) g.is ∙ (ap (λ (q : Left). noted q.marked (change c true q.at) d.lane) o.1 ∙ ap (λ (k : Option (Taken S)). noted true (change c true l.leaving.0) k) h.taken.1),
+      record h.taken.0 { changes = change c true q.leaving.0 ∷ h.taken.0.changes },
+      ap (λ x. x.lane) g.is ∙ (ap (λ (q : Left). noted q.marked (change c true q.at) d.lane) o.1 ∙ ap (λ (k : Option (Taken S)). noted true (change c true q.leaving.0) k) h.taken.1),
       h.taken.2,
       h.taken.3,
     );
   }
 
   -- when a cell is back, the lane is still there
-  pub back_lane : (p : Plan S M) (d d' : Doing S M) (c : ℕ) (lane : OwnLane S) → HasLane shows lane d → IsBack p d c d' → HasLane shows lane d'
-  back_lane p d d' c lane h b = record { number = h.number; taken = (h.taken.0, ap (λ x. x.lane) b.is ∙ h.taken.1, h.taken.2, h.taken.3) }
+  pub back_lane : (p : Plan S M) (d d' : Doing S M) (c l : ℕ) (lane : OwnLane S) → HasLane shows l lane d → IsBack p d c d' → HasLane shows l lane d'
+  back_lane p d d' c l lane h b = record { number = h.number; taken = (h.taken.0, ap (λ x. x.lane) b.is ∙ h.taken.1, h.taken.2, h.taken.3) }

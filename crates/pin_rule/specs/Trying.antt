@@ -47,10 +47,10 @@ module _ {S M : Type 0} where
     pub slots : d.slots ≡ []
     pub leaving : (at : List Event) × (d.leaving ≡ left c s mark at ∷ [])
 
-  -- it has lane 0, with a store whose faults have not become fewer
-  pub record HasLane (shows : S → Contents) (lane : OwnLane S) (d : Doing S M) : Type 0 where
-    pub number : lane.lane ≡ 0
-    pub taken : (o : Taken S) × (d.lane ≡ Some o) × (o.lane ≡ 0) × ((shows o.store).faults ≤ (shows lane.store).faults)
+  -- it has the lane l, with a store whose faults have not become fewer
+  pub record HasLane (shows : S → Contents) (l : ℕ) (lane : OwnLane S) (d : Doing S M) : Type 0 where
+    pub number : lane.lane ≡ l
+    pub taken : (o : Taken S) × (d.lane ≡ Some o) × (o.lane ≡ l) × ((shows o.store).faults ≤ (shows lane.store).faults)
 
 -- the cell has eight voxels of one byte
 pub record IsSmall (levels : List Level) (c : ℕ) : Type 0 where

@@ -1,3 +1,4 @@
 pub mod Filling
+pub mod Lanes
 pub mod Ones
 pub mod Shown

@@ -5,11 +5,12 @@ use Rattle.pin_words.specs.Cells.{held}
 use Rattle.pin_rule.specs.declared.pins.Pins.{Pins}
 use Rattle.pin_rule.specs.Calls.{cell_count, slot_count, lane_count, voxel_count, greatest_in}
 
--- the cell is one of 64 voxels of one byte, in a table of two slots and one lane
+-- the cell is one of two, of 64 voxels of one byte, in a table of two slots and two lanes: each cell has a lane of its own
 pub record IsTimed {S : Type 0} (t : Pins S) (c : ℕ) : Type 0 where
   pub cell : c < cell_count t
+  pub cells : cell_count t ≡ 2
   pub slots : slot_count t ≡ 2
-  pub lanes : lane_count t ≡ 1
+  pub lanes : lane_count t ≡ 2
   pub voxels : voxel_count t c ≡ 64
   pub greatest : greatest_in t c ≡ 255
 

@@ -21,7 +21,7 @@ fn publish(
     requires pass { IsPassOf pins.now pass.old }
     requires timed { IsTimed pins.now claim.cell × (slot.slot < 2) }
     requires loading { IsLoading claim.cell slot.slot (view pass.old) × (slot.filled ≡ None) }
-    requires lane { HasLane ⟦<Quiet as Store>⟧.contents lane (view pass.old) }
+    requires lane { HasLane ⟦<Quiet as Store>⟧.contents claim.cell lane (view pass.old) }
     requires bytes { (i : ℕ) → slice_index values.now i ≤ 255 }
     ensures pass { IsPassOf pins.now pass.new × SameRoster (view pass.old) (view pass.new) }
     ensures handle { (result.cell ≡ claim.cell) × (result.slot ≡ slot.slot) × (result.marked ≡ false) }
@@ -47,13 +47,41 @@ pub fn load(pins: &Pins<Quiet>, pass: &mut Pass<Quiet>, cell: u32) -> Option<Han
         pins.abandon(pass, claim);
         return None;
     };
-    match pins.try_lane(pass, 0) {
+    match pins.try_lane(pass, cell) {
         Ok(lane) => Some(publish(pins, pass, claim, slot, lane, &ones())),
         Err(_) => {
             pins.give_slot(pass, slot);
             pins.abandon(pass, claim);
             None
         }
+    }
+}
+
+/// Pins a live cell. None where it isn't live.
+fn pin(pins: &Pins<Quiet>, pass: &mut Pass<Quiet>, cell: u32) -> Option<Handle>
+    requires pass { IsPassOf pins.now pass.old }
+    requires bare { IsBare (view pass.old) }
+    requires timed { IsTimed pins.now cell }
+    ensures pass { IsPassOf pins.now pass.new × SameRoster (view pass.old) (view pass.new) }
+    ensures done { MatchOption result (IsBare (view pass.new)) (λ h. (h.cell ≡ cell) × (h.slot < 2) × (h.marked ≡ false) × IsUsing h.cell h.slot false (view pass.new) × ((view pass.new).lane ≡ None)) }
+{
+    match pins.try_pin(pass, cell) {
+        Ok(handle) => Some(handle),
+        Err(_) => None,
+    }
+}
+
+/// A pin on the cell, which is loaded where it is absent. None where another pass is in the way, and nothing is held then.
+pub fn reach(pins: &Pins<Quiet>, pass: &mut Pass<Quiet>, cell: u32) -> Option<Handle>
+    requires pass { IsPassOf pins.now pass.old }
+    requires bare { IsBare (view pass.old) }
+    requires timed { IsTimed pins.now cell }
+    ensures pass { IsPassOf pins.now pass.new × SameRoster (view pass.old) (view pass.new) }
+    ensures done { MatchOption result (IsBare (view pass.new)) (λ h. (h.cell ≡ cell) × (h.slot < 2) × (h.marked ≡ false) × IsUsing h.cell h.slot false (view pass.new) × ((view pass.new).lane ≡ None)) }
+{
+    match load(pins, pass, cell) {
+        Some(handle) => Some(handle),
+        None => pin(pins, pass, cell),
     }
 }
 

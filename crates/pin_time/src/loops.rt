@@ -5,9 +5,12 @@ ghost use Rattle.pin_rule.specs.Calls.{view, IsPassOf};
 ghost use Rattle.pin_rule.specs.Trying.{StaysBare};
 ghost use Rattle.pin_time.specs.Timed.{IsTimed};
 
-use crate::loads::{load, turn_out};
+use crate::loads::{load, reach, turn_out};
 use crate::table::Quiet;
 use pin_rule::{Pass, Pins};
+
+/// How often a cell is visited in a round: alone it takes about half as long as filling a frame.
+const VISITS: u64 = 16;
 
 /// Makes an absent cell live, with no pin.
 pub fn load_once(pins: &Pins<Quiet>, pass: &mut Pass<Quiet>, cell: u32)
@@ -37,14 +40,14 @@ fn pin_once(pins: &Pins<Quiet>, pass: &mut Pass<Quiet>, cell: u32) -> bool
     }
 }
 
-/// Loads a cell and turns it out. Says whether both were done.
+/// Loads a cell where it isn't live yet, and turns it out. Says whether it was turned out.
 fn round_once(pins: &Pins<Quiet>, pass: &mut Pass<Quiet>, cell: u32) -> bool
     requires pass { IsPassOf pins.now pass.old }
     requires bare { IsBare (view pass.old) }
     requires timed { IsTimed pins.now cell }
     ensures pass { IsPassOf pins.now pass.new × StaysBare (view pass.old) (view pass.new) }
 {
-    match load(pins, pass, cell) {
+    match reach(pins, pass, cell) {
         Some(handle) => {
             let slot = handle.slot();
             pins.unpin(pass, handle);
@@ -109,18 +112,35 @@ pub fn writes_done(pins: &Pins<Quiet>, pass: &mut Pass<Quiet>, cell: u32, rounds
     done
 }
 
-/// How often an absent cell was loaded and turned out.
+/// Loads an absent cell and turns it out, and tries again where a visitor is in the way. How often that was done.
 pub fn rounds_done(pins: &Pins<Quiet>, pass: &mut Pass<Quiet>, cell: u32, rounds: u32) -> u64
     requires pass { IsPassOf pins.now pass.old }
     requires bare { IsBare (view pass.old) }
     requires timed { IsTimed pins.now cell }
     ensures pass { IsPassOf pins.now pass.new × StaysBare (view pass.old) (view pass.new) }
 {
-    let mut done: u64 = 0;
-    for _round in 0..rounds {
+    let mut done: u32 = 0;
+    for _try in 0..u32::MAX {
+        if done == rounds {
+            return u64::from(done);
+        }
         if round_once(pins, pass, cell) {
             done = done.wrapping_add(1);
         }
     }
-    done
+    u64::from(done)
+}
+
+/// Pins a cell and unpins it where it is live, and misses it where it isn't. How often that was done.
+pub fn visits_done(pins: &Pins<Quiet>, pass: &mut Pass<Quiet>, cell: u32, rounds: u32) -> u64
+    requires pass { IsPassOf pins.now pass.old }
+    requires bare { IsBare (view pass.old) }
+    requires timed { IsTimed pins.now cell }
+    ensures pass { IsPassOf pins.now pass.new × StaysBare (view pass.old) (view pass.new) }
+{
+    let visits = u64::from(rounds) * VISITS;
+    for _visit in 0..visits {
+        let _live = pin_once(pins, pass, cell);
+    }
+    visits
 }

@@ -13,6 +13,8 @@ pub enum What {
     Fill,
     /// A cell is loaded and turned out.
     Round,
+    /// A cell is visited.
+    Visit,
 }
 
 /// Who does it.
@@ -39,9 +41,6 @@ pub fn request_of(words: &[String]) -> Option<Request> {
     let what = what_of(words.next()?.as_str())?;
     let hands = hands_of(words.next()?.as_str())?;
     let rounds = words.next()?.parse::<u32>().ok()?;
-    if is_for_one(what) && !matches!(hands, Hands::One) {
-        return None;
-    }
     Some(Request {
         what,
         hands,
@@ -49,9 +48,20 @@ pub fn request_of(words: &[String]) -> Option<Request> {
     })
 }
 
-/// Whether it needs a cell that no other pass claims.
-fn is_for_one(what: What) -> bool {
-    matches!(what, What::Fill | What::Round)
+/// Whether it needs a live cell.
+pub fn is_for_live(what: What) -> bool {
+    matches!(what, What::Pin | What::Read | What::Write)
+}
+
+/// What a second thread is asked for. A claim is one pass's alone: where the first one claims the cell, the second visits it.
+pub fn beside(request: Request) -> Request {
+    match (request.what, request.hands) {
+        (What::Fill | What::Round, Hands::Same) => Request {
+            what: What::Visit,
+            ..request
+        },
+        _ => request,
+    }
 }
 
 fn what_of(word: &str) -> Option<What> {
@@ -61,6 +71,7 @@ fn what_of(word: &str) -> Option<What> {
         "write" => Some(What::Write),
         "fill" => Some(What::Fill),
         "round" => Some(What::Round),
+        "visit" => Some(What::Visit),
         _ => None,
     }
 }

@@ -1,4 +1,4 @@
-// The table that is timed: two cells, two slots, and a store that tells nothing.
+// The table that is timed: two cells, two slots, and two stores that tell nothing.
 ghost use Rattle.std.specs.Prelude.{◌≡◌, ℕ, ◌≤◌, IfSome, slice_index};
 ghost use Rattle.cell_grid.specs.declared.kind.Kind.TheVariants.{U8};
 ghost use Rattle.cell_grid.specs.Pyramid.{cells_of, frame_of, voxels_of, kind_of};
@@ -59,7 +59,7 @@ pub fn geometry(alloc: Global) -> Option<Geometry>
     Some(geometry)
 }
 
-/// A table of two slots over one empty store.
+/// A table of two slots over two empty stores.
 pub fn table(alloc: Global, geometry: &Geometry) -> Option<(Pins<Quiet>, Pass<Quiet>)>
     requires sizes { (cells_of geometry.now ≡ 2) × (frame_of geometry.now ≡ 64) }
     requires first { (voxels_of geometry.now 0 ≡ 64) × (kind_of geometry.now 0 ≡ U8) }
@@ -68,8 +68,7 @@ pub fn table(alloc: Global, geometry: &Geometry) -> Option<(Pins<Quiet>, Pass<Qu
     ensures pass { IfSome result (λ r. IsPassOf r.0 r.1 × IsFirst (view r.1)) }
 {
     let keys = keys(geometry)?;
-    let store = MemStore::new(alloc, BTreeMap::new(alloc), Vec::new(alloc));
-    let stores = vec![in alloc; Quiet { store }].ok()?;
+    let stores = vec![in alloc; empty(alloc), empty(alloc)].ok()?;
     match Pins::new(alloc, geometry, &keys, 2, stores) {
         Ok(made) => Some(made),
         Err(_) => None,
@@ -81,6 +80,12 @@ fn keys(geometry: &Geometry) -> Option<Keys> {
         return None;
     }
     Keys::new(geometry, "vol", true).ok()
+}
+
+fn empty(alloc: Global) -> Quiet {
+    Quiet {
+        store: MemStore::new(alloc, BTreeMap::new(alloc), Vec::new(alloc)),
+    }
 }
 
 /// The numbers of a frame that is filled.

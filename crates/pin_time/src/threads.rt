@@ -1,32 +1,18 @@
-// Two threads with the same live cell, or with one each.
+// Two threads with the same cell, or with one each.
 ghost use Rattle.std.specs.Prelude.{◌≡◌, ◌<◌};
 ghost use Rattle.pin_words.specs.Ends.{IsBare};
 ghost use Rattle.pin_rule.specs.Calls.{view, IsPassOf};
 ghost use Rattle.pin_rule.specs.Trying.{StaysBare};
 ghost use Rattle.pin_time.specs.Timed.{IsTimed};
 
-use crate::loops::{load_once, pins_done, reads_done, writes_done};
-use crate::request::{Request, What};
+use crate::request::{Request, beside};
 use crate::table::{Quiet, geometry, table};
+use crate::work::{prepare, work};
 use pin_rule::{Pass, Pins};
 use std::alloc::Global;
 use std::thread::{Threads, join};
 
-/// How many rounds were done with a live cell.
-pub fn live_work(pins: &Pins<Quiet>, pass: &mut Pass<Quiet>, cell: u32, request: Request) -> u64
-    requires pass { IsPassOf pins.now pass.old }
-    requires bare { IsBare (view pass.old) }
-    requires timed { IsTimed pins.now cell }
-    ensures pass { IsPassOf pins.now pass.new × StaysBare (view pass.old) (view pass.new) }
-{
-    match request.what {
-        What::Read => reads_done(pins, pass, cell, request.rounds),
-        What::Write => writes_done(pins, pass, cell, request.rounds),
-        _ => pins_done(pins, pass, cell, request.rounds),
-    }
-}
-
-/// The same with a pass that comes and goes.
+/// How often it was done, with a pass that comes and goes.
 fn half(
     pins: &Pins<Quiet>,
     mut pass: Pass<Quiet>,
@@ -37,7 +23,7 @@ fn half(
     requires timed { IsTimed pins.now cell }
     ensures pass { IsPassOf pins.now result.0 × StaysBare (view pass) (view result.0) }
 {
-    let done = live_work(pins, &mut pass, cell, request);
+    let done = work(pins, &mut pass, cell, request);
     (pass, done)
 }
 
@@ -65,11 +51,11 @@ fn halves<R: Threads + Sync>(
         move ||
             requires { IsPassOf pins.now two × IsBare (view two) × IsTimed pins.now cell }
             ensures { IsPassOf pins.entry.now result.0 × StaysBare (view two) (view result.0) }
-        { half(pins, two, cell, request) },
+        { half(pins, two, cell, beside(request)) },
     )
 }
 
-/// How many rounds two threads did, where the second one's cell is 0 or 1. None where memory wanted.
+/// How often two threads did it, where the second one's cell is 0 or 1. None where memory wanted.
 pub fn done_by_two<R: Threads + Sync>(
     rt: &R,
     alloc: Global,
@@ -81,8 +67,8 @@ pub fn done_by_two<R: Threads + Sync>(
     let geometry = geometry(alloc)?;
     let (pins, mut pass) = table(alloc, &geometry)?;
     let other = pins.split(&mut pass);
-    load_once(&pins, &mut pass, 0);
-    load_once(&pins, &mut pass, 1);
+    prepare(&pins, &mut pass, 0, request);
+    prepare(&pins, &mut pass, 1, request);
     let (first, second) = halves(rt, &pins, pass, other, cell, request);
     let (mut pass, one) = first;
     let (other, two) = second;

@@ -76,7 +76,7 @@ fn let_go(pins: &Pins<Quiet>, pass: &mut Pass<Quiet>, leaving: Leaving, lane: La
     requires pass { IsPassOf pins.now pass.old }
     requires tried { (leaving.cell < cell_count pins.now) × (leaving.slot < slot_count pins.now) × (lane_count pins.now ≡ 1) }
     requires leaving { (leaving.marked ≡ true) × IsLeaving leaving.cell leaving.slot true (view pass.old) }
-    requires lane { HasLane ⟦<Quiet as Store>⟧.contents lane (view pass.old) }
+    requires lane { HasLane ⟦<Quiet as Store>⟧.contents 0 lane (view pass.old) }
     ensures pass { IsPassOf pins.now pass.new × StaysBare (view pass.old) (view pass.new) }
 {
     let slot = pins.gone(pass, leaving, Some(&lane));
@@ -96,7 +96,7 @@ pub fn turn_out(
     requires pass { IsPassOf pins.now pass.old }
     requires tried { IsTried grid.now.0 grid.now.1 pins.now × (leaving.cell < 3) × (leaving.slot < 2) }
     requires leaving { (leaving.marked ≡ true) × IsLeaving leaving.cell leaving.slot true (view pass.old) }
-    requires lane { HasLane ⟦<Quiet as Store>⟧.contents lane (view pass.old) }
+    requires lane { HasLane ⟦<Quiet as Store>⟧.contents 0 lane (view pass.old) }
     ensures pass { IsPassOf pins.now pass.new × StaysBare (view pass.old) (view pass.new) }
 {
     let (geometry, keys) = grid;

@@ -29,7 +29,7 @@ fn load(
     requires pass { IsPassOf pins.now pass.old }
     requires tried { IsTried grid.now.0 grid.now.1 pins.now × (claim.cell < 3) × (slot.slot < 2) }
     requires loading { IsLoading claim.cell slot.slot (view pass.old) × (slot.filled ≡ None) }
-    requires lane { HasLane ⟦<Quiet as Store>⟧.contents lane (view pass.old) }
+    requires lane { HasLane ⟦<Quiet as Store>⟧.contents 0 lane (view pass.old) }
     ensures pass { IsPassOf pins.now pass.new × SameRoster (view pass.old) (view pass.new) }
     ensures done { MatchOption result (IsBare (view pass.new)) (λ h. (h.cell ≡ claim.cell) × (h.slot < 2) × (h.marked ≡ false) × IsUsing h.cell h.slot false (view pass.new) × ((view pass.new).lane ≡ None)) }
 {

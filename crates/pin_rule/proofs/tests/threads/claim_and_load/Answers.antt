@@ -9,4 +9,4 @@ abbrev faults : Quiet → ℕ
 faults s = (contents_of s.store).faults
 
 pub load-requires-clause-lane : goal.load-requires-clause-lane
-load-requires-clause-lane g c = took_lane (quiet faults (made_of c.args.pins.now)) _ (view c.try_slot.new.pass) (view c.try_lane.new.pass) c.in-Ok-try_lane.lane c.in-Ok-try_lane.ensures.done.0 c.in-Ok-try_lane.ensures.done.1
+load-requires-clause-lane g c = took_lane (quiet faults (made_of c.args.pins.now)) _ (view c.try_slot.new.pass) (view c.try_lane.new.pass) 0 c.in-Ok-try_lane.lane c.in-Ok-try_lane.ensures.done.0 c.in-Ok-try_lane.ensures.done.1

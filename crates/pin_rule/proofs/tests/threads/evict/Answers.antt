@@ -9,4 +9,4 @@ abbrev faults : Quiet → ℕ
 faults s = (contents_of s.store).faults
 
 pub turn_out-saved-requires-clause-lane : goal.turn_out-saved-requires-clause-lane
-turn_out-saved-requires-clause-lane g c = took_lane (quiet faults (made_of c.args.pins.now)) _ (view c.close.new.pass) (view c.try_lane.new.pass) c.in-Ok.lane c.in-Ok.ensures.done.0 c.in-Ok.ensures.done.1
+turn_out-saved-requires-clause-lane g c = took_lane (quiet faults (made_of c.args.pins.now)) _ (view c.close.new.pass) (view c.try_lane.new.pass) 0 c.in-Ok.lane c.in-Ok.ensures.done.0 c.in-Ok.ensures.done.1
