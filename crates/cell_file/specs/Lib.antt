@@ -1,3 +1,4 @@
+pub mod Asks
 pub mod File
 pub mod Keys
 pub mod Laws

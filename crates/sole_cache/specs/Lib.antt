@@ -10,3 +10,5 @@ pub mod Pieces
 pub mod Shut
 pub mod Open
 pub mod Laws
+pub mod Acquires
+pub mod Puts

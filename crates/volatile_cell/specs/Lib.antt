@@ -4,5 +4,6 @@ pub mod Requests
 pub mod StrategyRule
 pub mod Pieces
 pub mod Looks
+pub mod Steps
 pub mod SoleEyes
 pub mod SoleLaws
