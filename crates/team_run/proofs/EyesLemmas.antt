@@ -11,7 +11,7 @@ use Rattle.volatile_cell.specs.declared.queue_call.QueueCall.{QueueCall}
 use Rattle.volatile_cell.specs.declared.queue_call.QueueCall.TheVariants as call
 use Rattle.volatile_cell.specs.Asked.{Asked, AskedFrom, after_call, is_put}
 use Rattle.volatile_cell.specs.SoleLaws.{leads_nowhere, leads_after, asked_after}
-use Rattle.team_run.specs.Desk.{Desk, DeskLeads, IsReady, desk}
+use Rattle.team_run.specs.Desk.{Desk, DeskLeads, DeskFollows, IsReady, desk}
 use Rattle.std.proofs.lemmas.Grind.{common_steps}
 use Rattle.std.specs.Result.{IfErr, OnOk}
 use Rattle.cell_file.specs.declared.errors.AcquireErr.{AcquireErr}
@@ -82,6 +82,10 @@ desk_on a b d p q u v first second = record {
 
 pub desk_stays : (a : Desk) → DeskLeads a [] [] a
 desk_stays a = record { cache = leads_nowhere a.cache; queue = refl }
+
+-- what steps of eyes led to
+pub desk_leads : (a b : Desk) (p : List Event) (u : List Asked) → DeskFollows a p u b → DeskLeads a p u b
+desk_leads a b p u led = record { cache = led.cache.leads; queue = led.queue }
 
 -- a fact of a desk is one of the same desk by other names
 pub at_desk : {X : Type 0} (Fact : Desk → Type 0) (cached : X → Cached) (x x' : X) (q q' : Queue) → x' ≡ x → q' ≡ q → Fact (desk (cached x) q) → Fact (desk (cached x') q')
