@@ -1,7 +1,7 @@
 -- Where steps of eyes lead.
 use Rattle.std.proofs.Common.{◌≡◌, ◌∙◌, ◌⊎◌, ℕ, zero, suc, inl, inr, List, [], ◌∷◌, ◌++◌, refl, sym, ap, subst}
 use Rattle.std.proofs.lemmas.List.{append-nil}
-use Rattle.std.specs.Prelude.{Result}
+use Rattle.std.specs.Prelude.{Result, IfErr}
 use Rattle.std.specs.declared.result.Result.TheVariants.{Ok, Err}
 use Rattle.cell_file.specs.declared.errors.AcquireErr.{AcquireErr}
 use Rattle.cell_file.specs.declared.errors.AcquireErr.TheVariants as refusal
@@ -48,6 +48,11 @@ module _ (c d : Cached) where
   pub refusal_as : (cell : ℕ) (err : AcquireErr) (events : List Event) (calls : List StoreCall) → IsCaused c d cell (Err err) → Acquires c cell (Err err) events calls d → IsRefusal c d cell err
   refusal_as cell err events calls caused done =
       record { caused = caused; full = λ same. (full_of cell err events calls done.is same).1; events = events; calls = calls; acquires = done }
+
+  pub refused_by : (cell : ℕ) (result : Result Handle AcquireErr) (events : List Event) (calls : List StoreCall) → IsCaused c d cell result → Acquires c cell result events calls d
+      → IfErr result (λ err. IsRefusal c d cell err)
+  refused_by cell (Ok h) events calls caused done = tt
+  refused_by cell (Err err) events calls caused done = refusal_as cell err events calls caused done
 
   -- what a step asks of the stores leads from what they showed to what they show
   quiet_called : (events : List Event) (calls : List StoreCall) → Quiet c events d → calls ≡ [] → AreCalled calls c.shown d.shown
