@@ -1,5 +1,5 @@
 -- What commands answer, from what was done.
-use Rattle.std.proofs.Common.{◌≡◌, ◌∙◌, ℕ, List, [], ◌∷◌, ◌++◌, true, false, refl, subst}
+use Rattle.std.proofs.Common.{◌≡◌, ◌∙◌, ℕ, List, [], ◌∷◌, ◌++◌, true, false, refl, sym, ap, subst}
 use Rattle.std.specs.Prelude.{Result, Ok, Err}
 use Rattle.std.proofs.lemmas.List.{append-nil}
 use Rattle.arr_history.specs.declared.event.Event.{Event}
@@ -22,6 +22,7 @@ use Rattle.scale_pick.specs.declared.view.View.{View}
 use Rattle.scale_pick.specs.Painted.{painted_of, IsComplete}
 use Rattle.scale_pick.specs.Picture.{IsFilled}
 use Rattle.scale_pick.specs.Wanted.{wanted_level}
+use Rattle.sole_cache.specs.Acquires.{GetsVoxel, SetsVoxel}
 use Rattle.sole_cache.specs.Cached.{Cached}
 use Rattle.sole_cache.specs.Moves.{Runs}
 use Rattle.sole_cache.specs.Pieces.{IsGet, IsSet, IsCellCaused}
@@ -49,6 +50,26 @@ pub put_refused : (a b : Cached) (level : ℕ) (pos : List ℕ) (x : ℕ) (err :
 put_refused a b level pos x cell_err.Outside events h cause = (h, tt)
 put_refused a b level pos x (cell_err.TooLarge value) events h cause = (h, tt)
 put_refused a b level pos x (cell_err.Acquire err) events h cause = (h, cause)
+
+-- what a get and a set that are refused ask of the stores
+asked_get : (a b : Cached) (level : ℕ) (pos : List ℕ) (err : CellErr) (stores : List StoreCall) → GetsVoxel a level pos (Err err) stores b → AsksGet a level pos (answer.Refused (refusal_in err)) stores b
+asked_get a b level pos cell_err.Outside stores asks = asks
+asked_get a b level pos (cell_err.TooLarge value) stores asks = asks
+asked_get a b level pos (cell_err.Acquire err) stores asks = asks
+
+asked_set : (a b : Cached) (level : ℕ) (pos : List ℕ) (x : ℕ) (err : CellErr) (stores : List StoreCall) → SetsVoxel a level pos x (Err err) stores b
+    → AsksSet a level pos x (answer.Refused (refusal_in err)) stores b
+asked_set a b level pos x cell_err.Outside stores asks = asks
+asked_set a b level pos x (cell_err.TooLarge value) stores asks = asks
+asked_set a b level pos x (cell_err.Acquire err) stores asks = asks
+
+pub get_refused_asks : (a b : Cached) (level : ℕ) (pos : List ℕ) (err : CellErr) (told : Answer) → told ≡ answer.Refused (refusal_in err) → (stores : List StoreCall) × GetsVoxel a level pos (Err err) stores b
+    → (stores : List StoreCall) × AsksGet a level pos told stores b
+get_refused_asks a b level pos err told is asks = (asks.0, subst (λ (t : Answer). AsksGet a level pos t asks.0 b) (sym is) (asked_get a b level pos err asks.0 asks.1))
+
+pub set_refused_asks : (a b : Cached) (level : ℕ) (pos : List ℕ) (x : ℕ) (err : CellErr) (told : Answer) → told ≡ answer.Refused (refusal_in err) → (stores : List StoreCall) × SetsVoxel a level pos x (Err err) stores b
+    → (stores : List StoreCall) × AsksSet a level pos x told stores b
+set_refused_asks a b level pos x err told is asks = (asks.0, subst (λ (t : Answer). AsksSet a level pos x t asks.0 b) (sym is) (asked_set a b level pos x err asks.0 asks.1))
 
 -- events alone lead from a cache with its queue
 events_lead : (a b : Cached) (q : Queue) (events : List Event) → Runs a events b → DeskLeads (desk a q) events [] (desk b q)

@@ -19,7 +19,7 @@ use Rattle.volatile_cell.specs.Asked.{Asked}
 use Rattle.volatile_cell.proofs.Following.{follows_called, follows_nothing}
 use Rattle.team_run.specs.Desk.{Desk}
 use Rattle.team_run.specs.Fetches.{IsDeskServing, AreDeskServings, stores_of, stores_of_all}
-use Rattle.team_run.specs.Serve.{AsksGet, AsksSet, ServesAll}
+use Rattle.team_run.specs.Serve.{AsksGet, AsksSet, ServesAll, cell_err_of}
 use Rattle.team_run.specs.Trace.{Trace}
 
 visits_called : (c d : Cached) (cell : ℕ) (then : List Event) (calls : List StoreCall) → Visits c cell then calls d → AreCalled calls c.shown d.shown
@@ -46,14 +46,14 @@ get_called c d level pos (answer.Value x) stores asks = gets_called c d level po
 get_called c d level pos answer.Done stores asks = absurd asks
 get_called c d level pos (answer.Frame painted) stores asks = absurd asks
 get_called c d level pos (answer.Fetched loaded held refused) stores asks = absurd asks
-get_called c d level pos (answer.Refused why) stores asks = gets_called c d level pos _ stores asks
+get_called c d level pos (answer.Refused why) stores asks = gets_called c d level pos (Err (cell_err_of why)) stores asks
 
 pub set_called : (c d : Cached) (level : ℕ) (pos : List ℕ) (x : ℕ) (told : Answer) (stores : List StoreCall) → AsksSet c level pos x told stores d → AreCalled stores c.shown d.shown
 set_called c d level pos x (answer.Value y) stores asks = absurd asks
 set_called c d level pos x answer.Done stores asks = sets_called c d level pos x (Ok (tt {0})) stores asks
 set_called c d level pos x (answer.Frame painted) stores asks = absurd asks
 set_called c d level pos x (answer.Fetched loaded held refused) stores asks = absurd asks
-set_called c d level pos x (answer.Refused why) stores asks = sets_called c d level pos x _ stores asks
+set_called c d level pos x (answer.Refused why) stores asks = sets_called c d level pos x (Err (cell_err_of why)) stores asks
 
 -- servings one after another; before a refused one nothing was asked of a store
 serving_called : (a b : Desk) (s : Served) (events : List Event) (calls : List Asked) (is : IsDeskServing a s events calls b) → AreCalled (stores_of a b s events calls is) a.cache.shown b.cache.shown

@@ -18,9 +18,11 @@ use Rattle.cell_file.specs.declared.errors.AcquireErr.{AcquireErr}
 use Rattle.fetchers.specs.declared.served.Served.{Served}
 use Rattle.fetchers.specs.declared.served.Served.TheVariants as served
 use Rattle.fetchers.specs.Servings.{IsGrantedServing, IsServing, AreServings}
-use Rattle.hier_paint.specs.Frames.{IsFrame, IsCutOff, IsVisitedTo, KeepsRule}
+use Rattle.hier_paint.specs.Frames.{IsFrame, IsCutOff, IsVisited, IsVisitedTo, KeepsRule}
 use Rattle.scale_pick.specs.declared.painted.Painted.{Painted}
 use Rattle.scale_pick.specs.declared.view.View.{View}
+use Rattle.scale_pick.specs.Notes.{notes_of}
+use Rattle.scale_pick.specs.Painting.{IsPainting}
 use Rattle.scale_pick.specs.Picture.{Pixels}
 use Rattle.volatile_cell.specs.Pieces.{IsGranted, IsRefused}
 
@@ -103,7 +105,22 @@ module _ {E : Type 0} (leads : E → List Event → List Asked → E → Type 0)
   either_frame (Ok painted) e e' view picture frame cut whole part = whole frame.events frame.calls frame.led
   either_frame (Err err) e e' view picture frame cut whole part = part cut.between cut.events cut.piece cut.calls cut.led cut.refused
 
-  -- a frame that was cut off, as another relation tells it
+  -- a frame, as another relation tells it, and one that was cut off
+  pub frame_as : {F : Type 0} (leads' : F → List Event → List Asked → F → Type 0) (levels' : F → List Level) (viewer' : F → ℕ) (f : E → F)
+      → ((a b : E) (p : List Event) (u : List Asked) → leads a p u b → leads' (f a) p u (f b))
+      → (result : Result Painted AcquireErr) (e e' : E) (view : View) (picture : Pixels) → levels e ≡ levels' (f e) → number e ≡ 0 → viewer e ≡ viewer' (f e)
+      → OnOk result (IsFrame leads levels number viewer e e' view picture) → OnOk result (IsFrame leads' levels' (λ _. 0) viewer' (f e) (f e') view picture)
+  frame_as leads' levels' viewer' f moves (Err err) e e' view picture same_levels zero same_viewer h = tt
+  frame_as leads' levels' viewer' f moves (Ok painted) e e' view picture same_levels zero same_viewer h = record {
+    events = h.events;
+    calls = h.calls;
+    led = moves e e' h.events h.calls h.led;
+    painting = subst (λ (ls : List Level). IsPainting ls view (notes_of view.strategy h.events) picture) same_levels h.painting;
+    rule = subst (λ v. KeepsRule view v (levels' (f e)) h.events h.calls) same_viewer (subst (λ (ls : List Level). KeepsRule view (viewer e) ls h.events h.calls) same_levels h.rule);
+    visited = subst (λ v. IsVisited 0 v (levels' (f e)) view picture h.events) same_viewer
+        (subst (λ (ls : List Level). IsVisited 0 (viewer e) ls view picture h.events) same_levels (subst (λ k. IsVisited k (viewer e) (levels e) view picture h.events) zero h.visited));
+  }
+
   pub cut_as : {F : Type 0} (leads' : F → List Event → List Asked → F → Type 0) (levels' : F → List Level) (viewer' : F → ℕ) (caused' : F → F → ℕ → AcquireErr → Type 0) (f : E → F)
       → ((a b : E) (p : List Event) (u : List Asked) → leads a p u b → leads' (f a) p u (f b)) → ((a b : E) (cell : ℕ) (err : AcquireErr) → caused a b cell err → caused' (f a) (f b) cell err)
       → (result : Result Painted AcquireErr) (e e' : E) (view : View) (picture : Pixels) → levels e ≡ levels' (f e) → number e ≡ 0 → viewer e ≡ viewer' (f e)

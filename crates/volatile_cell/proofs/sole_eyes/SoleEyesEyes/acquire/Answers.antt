@@ -1,5 +1,5 @@
 use Rattle.std.proofs.Common.{refl}
-use Rattle.sole_cache.proofs.Asked.{piece_of}
+use Rattle.sole_cache.proofs.Pieces.{piece_of}
 use Rattle.volatile_cell.proofs.Following.{eyes_acquire, refused_by}
 use Rattle.volatile_cell.proofs.Looking.{acquired}
 use Rattle.volatile_cell.proofs.sole_eyes.SoleEyesEyes.acquire.Goals as goal

@@ -1,7 +1,7 @@
 use Rattle.std.proofs.Common.{◌∙◌, [], refl, sym, ap}
 use Rattle.std.specs.declared.result.Result.TheVariants.{Ok, Err}
 use Rattle.volatile_cell.specs.Budget.{spent}
-use Rattle.sole_cache.proofs.Asked.{piece_of}
+use Rattle.sole_cache.proofs.Pieces.{piece_of}
 use Rattle.volatile_cell.proofs.Following.{eyes_acquire, refusal_as}
 use Rattle.volatile_cell.proofs.Looking.{granted, refused, on_true}
 use Rattle.volatile_cell.proofs.sole_eyes.SoleEyesEyes.look.Goals as goal
