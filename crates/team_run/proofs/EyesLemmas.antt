@@ -97,15 +97,8 @@ err_map : {X : Type 0} {E : Type 0} (r : Result X E) (P Q : E → Type 0) → If
 err_map (Ok x) P Q h f = tt
 err_map (Err e) P Q h f = f e h
 
-module _ {E : Type 0} (leads : E → List Event → List Asked → E → Type 0) (levels : E → List Level) (number viewer : E → ℕ) (caused : E → E → ℕ → AcquireErr → Type 0) where
-  -- what both kinds of frames give
-  pub either_frame : {X : Type 0} (result : Result Painted AcquireErr) (e e' : E) (view : View) (picture : Pixels) → OnOk result (IsFrame leads levels number viewer e e' view picture)
-      → IfErr result (λ err. IsCutOff leads levels number viewer caused e e' view picture err)
-      → ((events : List Event) (calls : List Asked) → leads e events calls e' → X) → ((mid : E) (events piece : List Event) (calls : List Asked) → leads e events calls mid → leads mid piece [] e' → X) → X
-  either_frame (Ok painted) e e' view picture frame cut whole part = whole frame.events frame.calls frame.led
-  either_frame (Err err) e e' view picture frame cut whole part = part cut.between cut.events cut.piece cut.calls cut.led cut.refused
-
-  -- a frame, as another relation tells it, and one that was cut off
+module _ {E : Type 0} (leads : E → List Event → List Asked → E → Type 0) (levels : E → List Level) (number viewer : E → ℕ) where
+  -- a frame, as another relation tells it
   pub frame_as : {F : Type 0} (leads' : F → List Event → List Asked → F → Type 0) (levels' : F → List Level) (viewer' : F → ℕ) (f : E → F)
       → ((a b : E) (p : List Event) (u : List Asked) → leads a p u b → leads' (f a) p u (f b))
       → (result : Result Painted AcquireErr) (e e' : E) (view : View) (picture : Pixels) → levels e ≡ levels' (f e) → number e ≡ 0 → viewer e ≡ viewer' (f e)
@@ -121,6 +114,15 @@ module _ {E : Type 0} (leads : E → List Event → List Asked → E → Type 0)
         (subst (λ (ls : List Level). IsVisited 0 (viewer e) ls view picture h.events) same_levels (subst (λ k. IsVisited k (viewer e) (levels e) view picture h.events) zero h.visited));
   }
 
+module _ {E : Type 0} (leads : E → List Event → List Asked → E → Type 0) (levels : E → List Level) (number viewer : E → ℕ) (caused : E → E → ℕ → AcquireErr → Type 0) where
+  -- what both kinds of frames give
+  pub either_frame : {X : Type 0} (result : Result Painted AcquireErr) (e e' : E) (view : View) (picture : Pixels) → OnOk result (IsFrame leads levels number viewer e e' view picture)
+      → IfErr result (λ err. IsCutOff leads levels number viewer caused e e' view picture err)
+      → ((events : List Event) (calls : List Asked) → leads e events calls e' → X) → ((mid : E) (events piece : List Event) (calls : List Asked) → leads e events calls mid → leads mid piece [] e' → X) → X
+  either_frame (Ok painted) e e' view picture frame cut whole part = whole frame.events frame.calls frame.led
+  either_frame (Err err) e e' view picture frame cut whole part = part cut.between cut.events cut.piece cut.calls cut.led cut.refused
+
+  -- a frame that was cut off, as another relation tells it
   pub cut_as : {F : Type 0} (leads' : F → List Event → List Asked → F → Type 0) (levels' : F → List Level) (viewer' : F → ℕ) (caused' : F → F → ℕ → AcquireErr → Type 0) (f : E → F)
       → ((a b : E) (p : List Event) (u : List Asked) → leads a p u b → leads' (f a) p u (f b)) → ((a b : E) (cell : ℕ) (err : AcquireErr) → caused a b cell err → caused' (f a) (f b) cell err)
       → (result : Result Painted AcquireErr) (e e' : E) (view : View) (picture : Pixels) → levels e ≡ levels' (f e) → number e ≡ 0 → viewer e ≡ viewer' (f e)

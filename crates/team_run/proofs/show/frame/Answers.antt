@@ -34,7 +34,7 @@ returns-clause-frame g c =
     (λ p u led. (led.0, led.1)) (λ mid p q u led more. (led.0 ∙ more.0, led.1 ∙ more.1)) in
     let whole : Desk → Desk → Type 0 = λ d e. OnOk c.paint-painted.result (IsFrame DeskFollows levels_at (λ _. 0) (λ _. c.args.viewer) d e c.args.view.now c.paint-painted.new.picture) in
     let at_eyes : whole (desk (shown eyes.cache.now) eyes.queue.now) (desk (shown last.cache.now) last.queue.now) =
-    frame_as _ _ _ _ _ DeskFollows levels_at (λ _. c.args.viewer) (λ e. desk (shown e.cache.now) e.queue.now) (λ a b p u led. record { cache = led.3; queue = led.4 })
+    frame_as _ _ _ _ DeskFollows levels_at (λ _. c.args.viewer) (λ e. desk (shown e.cache.now) e.queue.now) (λ a b p u led. record { cache = led.3; queue = led.4 })
     c.paint-painted.result eyes last c.args.view.now c.paint-painted.new.picture refl refl c.new-eyes.ensures.viewer c.paint-painted.ensures.frame in
     at_desk (whole (desk (shown c.args.cache.now) c.args.queue.now)) shown last.cache.now _ last.queue.now _ (c.cache-1.given.1 (sym c.new-eyes.ensures.same_cache ∙ names.0)) (c.queue-1.given.1 (sym c.new-eyes.ensures.same_queue ∙ names.1))
     (at_desk (λ d. whole d (desk (shown last.cache.now) last.queue.now)) shown eyes.cache.now c.args.cache.now eyes.queue.now c.args.queue.now (sym c.new-eyes.ensures.cache) (sym c.new-eyes.ensures.queue) at_eyes)
