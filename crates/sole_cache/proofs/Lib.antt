@@ -10,6 +10,7 @@ pub mod Claims
 pub mod Stood
 pub mod Logs
 pub mod Lanes
+pub mod Calls
 pub mod Faults
 pub mod Shuts
 pub mod Handles
