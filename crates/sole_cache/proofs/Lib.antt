@@ -15,6 +15,7 @@ pub mod Faults
 pub mod Shuts
 pub mod Handles
 pub mod Acquires
+pub mod Pieces
 pub mod Replaces
 pub mod Voxels
 pub mod Opens
