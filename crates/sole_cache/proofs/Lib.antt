@@ -12,6 +12,7 @@ pub mod Logs
 pub mod Lanes
 pub mod Calls
 pub mod Faults
+pub mod Puts
 pub mod Shuts
 pub mod Handles
 pub mod Acquires
