@@ -1,3 +1,4 @@
+pub mod AskLemmas
 pub mod FetchLemmas
 pub mod FitLemmas
 pub mod KeyLemmas

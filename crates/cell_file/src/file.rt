@@ -5,6 +5,7 @@ ghost use Rattle.cell_grid.specs.Pyramid.{cells_of, voxels_of, sides_of, kind_of
 ghost use Rattle.cell_store.specs.Faults.{Rose};
 ghost use Rattle.cell_store.specs.Store.{SameElsewhere, put_in};
 ghost use Rattle.n5_block.specs.Block.{block};
+ghost use Rattle.cell_file.specs.Asks.{IsAsked, IsPut};
 ghost use Rattle.cell_file.specs.File.{IsCauseOf, LogsFetch, LogsRefusedFetch, LogsRefusedSave, put_entry};
 ghost use Rattle.cell_file.specs.Keys.{edited_key, base_key};
 ghost use Rattle.cell_file.specs.Standing.{width_of, standing, refusal_of};
@@ -30,6 +31,9 @@ pub fn fetch<S: Store>(
     requires made { keys.now.levels ≡ geometry.now }
     requires cell { cell < cells_of geometry.now }
     requires room { voxels_of geometry.now cell ≤ length out.old }
+
+    // What was asked of the store, whose answer decides.
+    ensures asked { IsAsked geometry.now keys.now cell (S.contents store.old) (S.contents store.new) result (take (voxels_of geometry.now cell) out.new) }
 
     // Where the store tells what it holds: the values that it stands for, or why they are refused.
     ensures values { IsTrue (S.contents store.old).told → OnOk result (standing geometry.now keys.now (S.contents store.old).held cell ≡ Some (take (voxels_of geometry.now cell) out.new)) }
@@ -75,6 +79,9 @@ pub fn save<S: Store>(
     requires count { length values.now ≡ voxels_of geometry.now cell }
     requires fits { (i : ℕ) → slice_index values.now i ≤ greatest_of (kind_of geometry.now cell) }
     requires room { 16 + width_of geometry.now cell * voxels_of geometry.now cell ≤ length buf.old }
+
+    // What was put into the store, and the answer by that.
+    ensures put { IsPut geometry.now cell (S.contents store.old) (S.contents store.new) values.now result }
 
     // Where the store tells what it holds: the block stands under the edited key, and the store for the values.
     ensures block { IsTrue (S.contents store.old).told → OnOk result ((key : List ℕ) → (S.contents store.new).held key ≡ put_in (S.contents store.old).held (edited_key geometry.now cell) (block (width_of geometry.now cell) (sides_of geometry.now cell) values.now) key) }

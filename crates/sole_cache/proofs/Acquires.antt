@@ -1,8 +1,13 @@
 -- An acquire, from its steps.
-use Rattle.std.proofs.Common.{◌≡◌, ◌≢◌, ◌∙◌, inl, inr, ℕ, ◌≤◌, true, false, IsTrue, List, [], ◌∷◌, length, Option, None, Some, Result, Ok, Err, IfOk, IfErr, OnOk, OnErr, refl, sym, ap, subst, arith}
+use Rattle.std.proofs.Common.{◌≡◌, ◌≢◌, ◌∙◌, ◌⊎◌, inl, inr, ℕ, ◌≤◌, true, false, IsTrue, List, [], ◌∷◌, length, Option, None, Some, Result, Ok, Err, IfOk, IfErr, OnOk, OnErr, refl, sym, ap, subst, arith}
 use Rattle.cell_grid.specs.Pyramid.{lane_of}
 use Rattle.cell_store.specs.Faults.{Rose}
+use Rattle.cell_store.specs.declared.store.Put.{Put}
+use Rattle.cell_store.specs.declared.store.Put.TheVariants as put
+use Rattle.store_calls.specs.Calls.{StoreCall, AreCalled}
 use Rattle.cell_file.specs.declared.errors.FetchErr.{FetchErr}
+use Rattle.cell_file.specs.declared.errors.FetchErr.TheVariants as fetching
+use Rattle.arr_history.specs.declared.tally.Tally.{Tally}
 use Rattle.cell_file.specs.declared.errors.AcquireErr.{AcquireErr}
 use Rattle.cell_file.specs.declared.errors.AcquireErr.TheVariants as refusal
 use Rattle.cell_file.specs.Keys.{KeyNames, edited_key, base_key}
@@ -12,71 +17,147 @@ use Rattle.arr_history.specs.declared.event.Event.{Event}
 use Rattle.arr_history.specs.declared.event.Event.TheVariants as event
 use Rattle.sole_cache.specs.Slot.{slot_in}
 use Rattle.sole_cache.specs.Cached.{Cached, store_in, store_of, slot_of, slot_at}
+use Rattle.sole_cache.specs.Valid.{IsCache}
 use Rattle.sole_cache.specs.Room.{IsLowestFree, IsFull, IsVictim}
 use Rattle.sole_cache.specs.Moves.{Runs}
 use Rattle.sole_cache.specs.Handle.{Handle}
-use Rattle.sole_cache.specs.Pieces.{IsPiece, IsCaused, IsReplaced, IsReplacedBy}
+use Rattle.sole_cache.specs.Pieces.{IsCaused, IsReplacedBy}
+use Rattle.sole_cache.specs.Acquires.{refusal_by, refusal_of_put, Drops, HoldsUp, IsAcquire, Acquires}
+use Rattle.sole_cache.specs.Asked.{IsGot, leaving_calls, IsReplaced}
 use Rattle.sole_cache.proofs.Composed.{runs_on}
 
--- a live cell was pinned
-pub piece_hit : (a d : Cached) (n i : ℕ) (h : Handle) → slot_of a n ≡ Some i → h ≡ record { cell = n; slot = i; loaded = false } → Runs a (event.Pin 0 n ∷ []) d
-    → (events : List Event) × (IsPiece a n (Ok h) events × Runs a events d)
-piece_hit a d n i h live is runs = subst (λ h. (events : List Event) × (IsPiece a n (Ok h) events × Runs a events d)) (sym is)
-    (event.Pin 0 n ∷ [], ((refl, inl (record { live = live; found = refl; events_are = refl })), runs))
+-- a cache with other counts
+abbrev pub counted : Cached → Tally → Cached
+counted c tally = record { levels = c.levels; keys = c.keys; shown = c.shown; table = c.table; slots = c.slots; order = c.order; tally = tally }
 
--- a load into the lowest free slot
-pub piece_free : (a b d : Cached) (n i : ℕ) (r : Result Handle AcquireErr) → slot_of a n ≡ None → IsLowestFree a.slots (Some i) → Runs a (event.Miss 0 n ∷ []) b
+-- an acquire that isn't refused because every slot is pinned
+refused : (c : Cached) (n : ℕ) (err : AcquireErr) (events : List Event) (calls : List StoreCall) → (err ≡ refusal.Full → ⊥) → Drops c n err events calls ⊎ HoldsUp c n err events calls → IsAcquire c n (Err err) events calls
+refused c n refusal.ReadFault events calls other h = h
+refused c n refusal.WriteFault events calls other h = h
+refused c n (refusal.Malformed edited err) events calls other h = h
+refused c n (refusal.TooLong edited len limit) events calls other h = h
+refused c n refusal.Full events calls other h = absurd (other refl)
+refused c n refusal.Memory events calls other h = h
+
+not_full : (cause : FetchErr) (err : AcquireErr) → err ≡ refusal_by cause → err ≡ refusal.Full → ⊥
+not_full fetching.ReadFault err e f = cc
+not_full (fetching.Malformed edited broken) err e f = cc
+not_full (fetching.TooLong edited len limit) err e f = cc
+not_full fetching.Memory err e f = cc
+
+put_not_full : (answer : Put) (err : AcquireErr) → refusal_of_put answer ≡ Some err → err ≡ refusal.Full → ⊥
+put_not_full put.Done err e f = cc
+put_not_full put.Failed err e f = cc
+put_not_full put.NoMemory err e f = cc
+
+-- a live cell was pinned
+pub acquired_hit : (a d : Cached) (n i : ℕ) (h : Handle) → slot_of a n ≡ Some i → h ≡ record { cell = n; slot = i; loaded = false } → Runs a (event.Pin 0 n ∷ []) d → d.shown ≡ a.shown → IsCache d
+    → (events : List Event) × (calls : List StoreCall) × Acquires a n (Ok h) events calls d
+acquired_hit a d n i h live is runs shown valid = subst (λ h. (events : List Event) × (calls : List StoreCall) × Acquires a n (Ok h) events calls d) (sym is)
+    (event.Pin 0 n ∷ [], [], record { is = (refl, inl (record { live = live; found = refl; events_are = refl }, refl)); runs = runs; called = shown; valid = valid })
+
+-- a load into the lowest free slot, after a miss
+pub acquired_free : (a b d : Cached) (tally : Tally) (n i : ℕ) (r : Result Handle AcquireErr) → b ≡ counted a tally → slot_of a n ≡ None → IsLowestFree a.slots (Some i) → Runs a (event.Miss 0 n ∷ []) b
     → IfOk r (λ h. h ≡ record { cell = n; slot = i; loaded = true }) → OnOk r (Runs b (event.Claim 0 n ∷ event.Live 0 n i ∷ []) d) → OnErr r (Runs b (event.Claim 0 n ∷ event.Drop 0 n ∷ []) d)
-    → IfErr r (λ err. (err ≢ refusal.Full) × (err ≢ refusal.WriteFault)) → (events : List Event) × (IsPiece a n r events × Runs a events d)
-piece_free a b d n i r absent lowest miss handle loaded dropped own = go r handle loaded dropped own
+    → (gets : List StoreCall) × IsGot b n r gets × AreCalled gets b.shown d.shown → IsCache d → (events : List Event) × (calls : List StoreCall) × Acquires a n r events calls d
+acquired_free a b d tally n i r same absent lowest miss handle loaded dropped (gets, got, called) valid = go r handle loaded dropped (subst (λ x. IsGot x n r gets) same got)
   where
-    off : Runs b (event.Claim 0 n ∷ event.Drop 0 n ∷ []) d → Runs a (event.Miss 0 n ∷ event.Claim 0 n ∷ event.Drop 0 n ∷ []) d
-    off h = runs_on a b d _ _ miss h
+    all : AreCalled gets a.shown d.shown
+    all = subst (λ x. AreCalled gets x d.shown) (ap (λ (x : Cached). x.shown) same) called
 
     go : (r : Result Handle AcquireErr) → IfOk r (λ h. h ≡ record { cell = n; slot = i; loaded = true }) → OnOk r (Runs b (event.Claim 0 n ∷ event.Live 0 n i ∷ []) d) → OnErr r (Runs b (event.Claim 0 n ∷ event.Drop 0 n ∷ []) d)
-        → IfErr r (λ err. (err ≢ refusal.Full) × (err ≢ refusal.WriteFault)) → (events : List Event) × (IsPiece a n r events × Runs a events d)
-    go (Ok h) handle loaded dropped own = subst (λ h. (events : List Event) × (IsPiece a n (Ok h) events × Runs a events d)) (sym handle)
-        (event.Miss 0 n ∷ event.Claim 0 n ∷ event.Live 0 n i ∷ [], ((refl, inr (record { absent = absent; loaded = refl; turn = []; room = inl (lowest, refl); events_are = refl })), runs_on a b d _ _ miss loaded))
-    go (Err refusal.ReadFault) handle loaded dropped own = (event.Miss 0 n ∷ event.Claim 0 n ∷ event.Drop 0 n ∷ [], (record { absent = absent; slot = i; turn = []; room = inl (lowest, refl); events_are = refl }, off dropped))
-    go (Err refusal.WriteFault) handle loaded dropped own = absurd (own.1 refl)
-    go (Err (refusal.Malformed edited err)) handle loaded dropped own = (event.Miss 0 n ∷ event.Claim 0 n ∷ event.Drop 0 n ∷ [], (record { absent = absent; slot = i; turn = []; room = inl (lowest, refl); events_are = refl }, off dropped))
-    go (Err (refusal.TooLong edited len limit)) handle loaded dropped own = (event.Miss 0 n ∷ event.Claim 0 n ∷ event.Drop 0 n ∷ [], (record { absent = absent; slot = i; turn = []; room = inl (lowest, refl); events_are = refl }, off dropped))
-    go (Err refusal.Full) handle loaded dropped own = absurd (own.0 refl)
-    go (Err refusal.Memory) handle loaded dropped own = (event.Miss 0 n ∷ event.Claim 0 n ∷ event.Drop 0 n ∷ [], (inl (record { absent = absent; slot = i; turn = []; room = inl (lowest, refl); events_are = refl }), off dropped))
-
--- a load in place of the cell that was due
-pub piece_replaced : (a b d : Cached) (n due i : ℕ) (r : Result Handle AcquireErr) → slot_of a n ≡ None → IsVictim a i due → b.slots ≡ a.slots → Runs a (event.Miss 0 n ∷ []) b → IsReplaced b n due i r d
-    → (events : List Event) × (IsPiece a n r events × Runs a events d)
-piece_replaced a b d n due i r absent victim same miss done = go r done
-  where
-    mark : (slot_at b i).marked ≡ (slot_at a i).marked
-    mark = ap (λ l. (slot_in l i).marked) same
-
-    held : Runs b (event.Claim 0 n ∷ event.Close 0 due ∷ event.Back 0 due ∷ event.Drop 0 n ∷ []) d → Runs a (event.Miss 0 n ∷ event.Claim 0 n ∷ event.Close 0 due ∷ event.Back 0 due ∷ event.Drop 0 n ∷ []) d
-    held h = runs_on a b d _ _ miss h
-
-    off : Runs b (event.Claim 0 n ∷ event.Close 0 due ∷ event.Gone 0 due (slot_at b i).marked ∷ event.Drop 0 n ∷ []) d → Runs a (event.Miss 0 n ∷ event.Claim 0 n ∷ event.Close 0 due ∷ event.Gone 0 due (slot_at a i).marked ∷ event.Drop 0 n ∷ []) d
-    off h = subst (λ m. Runs a (event.Miss 0 n ∷ event.Claim 0 n ∷ event.Close 0 due ∷ event.Gone 0 due m ∷ event.Drop 0 n ∷ []) d) mark (runs_on a b d _ _ miss h)
-
-    go : (r : Result Handle AcquireErr) → IsReplaced b n due i r d → (events : List Event) × (IsPiece a n r events × Runs a events d)
-    go (Ok h) done = subst (λ h. (events : List Event) × (IsPiece a n (Ok h) events × Runs a events d)) (sym done.0) (
-      event.Miss 0 n ∷ event.Claim 0 n ∷ event.Close 0 due ∷ event.Gone 0 due (slot_at a i).marked ∷ event.Live 0 n i ∷ [],
-      (
-        (refl, inr (record { absent = absent; loaded = refl; turn = event.Close 0 due ∷ event.Gone 0 due (slot_at a i).marked ∷ []; room = inr (due, (victim, refl)); events_are = refl })),
-        subst (λ m. Runs a (event.Miss 0 n ∷ event.Claim 0 n ∷ event.Close 0 due ∷ event.Gone 0 due m ∷ event.Live 0 n i ∷ []) d) mark (runs_on a b d _ _ miss done.1),
-      ),
+        → IsGot (counted a tally) n r gets → (events : List Event) × (calls : List StoreCall) × Acquires a n r events calls d
+    go (Ok h) handle loaded dropped got = subst (λ h. (events : List Event) × (calls : List StoreCall) × Acquires a n (Ok h) events calls d) (sym handle) (
+      event.Miss 0 n ∷ event.Claim 0 n ∷ event.Live 0 n i ∷ [],
+      gets,
+      record {
+        is = (refl, inr (record { absent = absent; loaded = refl; turn = []; puts = []; room = inl (lowest, refl, refl); gets = gets; fetched = got; events_are = refl; calls_are = refl }));
+        runs = runs_on a b d _ _ miss loaded;
+        called = all;
+        valid = valid;
+      },
     )
-    go (Err refusal.ReadFault) done = (_, (record { absent = absent; slot = i; turn = event.Close 0 due ∷ event.Gone 0 due (slot_at a i).marked ∷ []; room = inr (due, (victim, refl)); events_are = refl }, off done.1))
-    go (Err refusal.WriteFault) done = (_, (record { absent = absent; slot = i; due = due; victim = victim; marked = sym mark ∙ done.0; events_are = refl }, held done.1))
-    go (Err (refusal.Malformed edited err)) done = (_, (record { absent = absent; slot = i; turn = event.Close 0 due ∷ event.Gone 0 due (slot_at a i).marked ∷ []; room = inr (due, (victim, refl)); events_are = refl }, off done.1))
-    go (Err (refusal.TooLong edited len limit)) done = (_, (record { absent = absent; slot = i; turn = event.Close 0 due ∷ event.Gone 0 due (slot_at a i).marked ∷ []; room = inr (due, (victim, refl)); events_are = refl }, off done.1))
-    go (Err refusal.Full) done = absurd done
-    go (Err refusal.Memory) (none, inl h) = (_, (inr (record { absent = absent; slot = i; due = due; victim = victim; marked = sym mark ∙ h.0; events_are = refl }), held h.1))
-    go (Err refusal.Memory) (none, inr h) = (_, (inl (record { absent = absent; slot = i; turn = event.Close 0 due ∷ event.Gone 0 due (slot_at a i).marked ∷ []; room = inr (due, (victim, refl)); events_are = refl }), off h))
+    go (Err err) handle loaded dropped (cause, fetched, is) = (
+      event.Miss 0 n ∷ event.Claim 0 n ∷ event.Drop 0 n ∷ [],
+      gets,
+      record {
+        is = refused a n err _ _ (not_full cause err is) (inl (record { absent = absent; slot = i; turn = []; puts = []; room = inl (lowest, refl, refl); gets = gets; cause = cause; fetched = fetched; err_is = is; events_are = refl; calls_are = refl }));
+        runs = runs_on a b d _ _ miss dropped;
+        called = all;
+        valid = valid;
+      },
+    )
+
+-- a load in place of the cell that was due, after a miss
+pub acquired_replaced : (a b d : Cached) (tally : Tally) (n due i : ℕ) (r : Result Handle AcquireErr) → b ≡ counted a tally → slot_of a n ≡ None → IsVictim a i due → Runs a (event.Miss 0 n ∷ []) b
+    → (events : List Event) × (calls : List StoreCall) × IsReplaced b n due i r events calls × Runs b events d × AreCalled calls b.shown d.shown → IsCache d
+    → (events : List Event) × (calls : List StoreCall) × Acquires a n r events calls d
+acquired_replaced a b d tally n due i r same absent victim miss (e, calls, is, runs, called) valid = go r (subst (λ x. IsReplaced x n due i r e calls) same is)
+  where
+    all : AreCalled calls a.shown d.shown
+    all = subst (λ x. AreCalled calls x d.shown) (ap (λ (x : Cached). x.shown) same) called
+
+    on : Runs a (event.Miss 0 n ∷ e) d
+    on = runs_on a b d (event.Miss 0 n ∷ []) e miss runs
+
+    go : (r : Result Handle AcquireErr) → IsReplaced (counted a tally) n due i r e calls → (events : List Event) × (calls : List StoreCall) × Acquires a n r events calls d
+    go (Ok h) (handle, done) = subst (λ h. (events : List Event) × (calls : List StoreCall) × Acquires a n (Ok h) events calls d) (sym handle) (
+      event.Miss 0 n ∷ e,
+      calls,
+      record {
+        is = (refl, inr (record { absent = absent; loaded = refl; turn = event.Close 0 due ∷ event.Gone 0 due (slot_at a i).marked ∷ []; puts = leaving_calls a due i; room = inr (due, victim, refl, refl); gets = done.gets; fetched = done.got; events_are = ap (λ l. event.Miss 0 n ∷ l) done.events_are; calls_are = done.calls_are }));
+        runs = on;
+        called = all;
+        valid = valid;
+      },
+    )
+    go (Err err) (inl done) = (
+      event.Miss 0 n ∷ e,
+      calls,
+      record {
+        is = refused a n err _ _ (not_full done.got.0 err done.got.2) (inl (record {
+          absent = absent;
+          slot = i;
+          turn = event.Close 0 due ∷ event.Gone 0 due (slot_at a i).marked ∷ [];
+          puts = leaving_calls a due i;
+          room = inr (due, victim, refl, refl);
+          gets = done.gets;
+          cause = done.got.0;
+          fetched = done.got.1;
+          err_is = done.got.2;
+          events_are = ap (λ l. event.Miss 0 n ∷ l) done.events_are;
+          calls_are = done.calls_are;
+        }));
+        runs = on;
+        called = all;
+        valid = valid;
+      },
+    )
+    go (Err err) (inr held) = (
+      event.Miss 0 n ∷ e,
+      calls,
+      record {
+        is = refused a n err _ _ (put_not_full held.answer err held.err_is) (inr (record {
+          absent = absent;
+          slot = i;
+          due = due;
+          victim = victim;
+          marked = held.marked;
+          answer = held.answer;
+          err_is = held.err_is;
+          events_are = ap (λ l. event.Miss 0 n ∷ l) held.events_are;
+          calls_are = held.calls_are;
+        }));
+        runs = on;
+        called = all;
+        valid = valid;
+      },
+    )
 
 -- nothing is taken where every slot has a pin
-pub piece_full : (a b : Cached) (n : ℕ) → slot_of a n ≡ None → IsFull a → Runs a (event.Miss 0 n ∷ []) b → (events : List Event) × (IsPiece a n (Err refusal.Full) events × Runs a events b)
-piece_full a b n absent full miss = (event.Miss 0 n ∷ [], ((absent, (full, refl)), miss))
+pub acquired_full : (a b : Cached) (n : ℕ) → slot_of a n ≡ None → IsFull a → Runs a (event.Miss 0 n ∷ []) b → b.shown ≡ a.shown → IsCache b
+    → (events : List Event) × (calls : List StoreCall) × Acquires a n (Err refusal.Full) events calls b
+acquired_full a b n absent full miss shown valid = (event.Miss 0 n ∷ [], [], record { is = (absent, full, refl, refl); runs = miss; called = shown; valid = valid })
 
 -- a rise after a count that never falls is a rise
 pub rose_on : (x y z : ℕ) → x ≤ y → Rose y z → Rose x z

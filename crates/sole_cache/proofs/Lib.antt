@@ -10,10 +10,13 @@ pub mod Claims
 pub mod Stood
 pub mod Logs
 pub mod Lanes
+pub mod Calls
 pub mod Faults
+pub mod Puts
 pub mod Shuts
 pub mod Handles
 pub mod Acquires
+pub mod Pieces
 pub mod Replaces
 pub mod Voxels
 pub mod Opens

@@ -1,6 +1,17 @@
 -- A cell that is loaded in another's place.
-use Rattle.std.proofs.Common.{◌≡◌, ◌≢◌, ◌∙◌, inr, ℕ, ◌+◌, ◌<◌, true, List, [], ◌∷◌, length, None, Some, Result, Ok, Err, IfOk, IfErr, OnOk, OnErr, slice_index_or, slice_set, get_or-set_same, get_or-set_other, refl, sym, ap, subst}
+use Rattle.std.proofs.Common.{◌≡◌, ◌≢◌, ◌∙◌, inl, inr, ℕ, ◌+◌, ◌<◌, true, List, [], ◌∷◌, ◌++◌, length, None, Some, Result, Ok, Err, IfOk, IfErr, OnOk, OnErr, slice_index_or, slice_set, get_or-set_same, get_or-set_other, refl, sym, ap, subst, arith}
 use Rattle.std.proofs.lemmas.List.{length-set}
+use Rattle.cell_grid.specs.declared.level.Level.{Level}
+use Rattle.cell_grid.specs.Pyramid.{lane_of}
+use Rattle.cell_store.specs.declared.store.Put.{Put}
+use Rattle.cell_store.specs.declared.store.Put.TheVariants as put
+use Rattle.store_calls.specs.Calls.{StoreCall, AreCalled}
+use Rattle.store_calls.proofs.Composed.{called_on}
+use Rattle.cell_file.specs.Asks.{AreFetch, save_answer}
+use Rattle.cell_file.specs.Keys.{KeyNames}
+use Rattle.cell_file.specs.declared.errors.FetchErr.{FetchErr}
+use Rattle.cell_file.specs.declared.errors.SaveErr.{SaveErr}
+use Rattle.cell_file.specs.declared.errors.SaveErr.TheVariants as saving
 use Rattle.cell_file.specs.declared.errors.AcquireErr.{AcquireErr}
 use Rattle.cell_file.specs.declared.errors.AcquireErr.TheVariants as refusal
 use Rattle.arr_history.specs.declared.event.Event.{Event}
@@ -11,13 +22,15 @@ use Rattle.sole_cache.specs.Cached.{Cached, slot_of, slot_at, handles_out, state
 use Rattle.sole_cache.specs.Valid.{IsCache}
 use Rattle.sole_cache.specs.Room.{IsLowestFree}
 use Rattle.sole_cache.specs.Moves.{Runs}
-use Rattle.sole_cache.specs.Handle.{Handle}
-use Rattle.sole_cache.specs.Pieces.{IsReplaced, IsReplacedBy, IsCaused}
+use Rattle.sole_cache.specs.Handle.{Handle, IsHandleOf}
+use Rattle.sole_cache.specs.Pieces.{IsReplacedBy, IsCaused}
+use Rattle.sole_cache.specs.Acquires.{refusal_of_put}
+use Rattle.sole_cache.specs.Asked.{IsGot, IsTurnedOut, IsReplaced}
 use Rattle.sole_cache.proofs.Composed.{runs_on}
 use Rattle.sole_cache.proofs.Claims.{runs_claim_first, runs_claim_round}
 use Rattle.sole_cache.proofs.Steps.{none_some, some_none}
 use Rattle.sole_cache.proofs.Acquires.{rose_on, falls, told_then}
-use Rattle.sole_cache.proofs.Handles.{all_pins, pins_loaded, pins_emptied, others_same}
+use Rattle.sole_cache.proofs.Handles.{all_pins, pins_loaded, pins_emptied, handle_placed, others_same}
 
 -- a cell that isn't live isn't the one that leaves
 pub not_due : (c : Cached) (n due i : ℕ) → slot_of c n ≡ None → slot_of c due ≡ Some i → n ≢ due
@@ -41,47 +54,76 @@ all_filled slots i n frame lt others j h = set_cases (λ (s : SlotValue). s.cell
 pub emptied_pins : (slots : List SlotValue) (i : ℕ) (s : SlotValue) → i < length slots → (slot_in (slice_set slots i (emptied s)) i).pins ≡ 0
 emptied_pins slots i s lt = ap (λ (t : SlotValue). t.pins) (get_or-set_same slots i (emptied s) no_slot lt)
 
-pub replaced : (a b d : Cached) (n due i : ℕ) (r : Result Handle AcquireErr) → IsCache a → slot_of a n ≡ None → slot_of a due ≡ Some i
-    → Runs a (event.Close 0 due ∷ event.Gone 0 due (slot_at a i).marked ∷ []) b → (b.table ≡ slice_set a.table due None) × (b.slots ≡ slice_set a.slots i (emptied (slot_at a i))) → n < length b.table
-    → IfOk r (λ h. h ≡ record { cell = n; slot = i; loaded = true })
-    → OnOk r (Runs b (event.Claim 0 n ∷ event.Live 0 n i ∷ []) d) → OnOk r ((d.table ≡ slice_set b.table n (Some i)) × ((frame : List ℕ) × (d.slots ≡ slice_set b.slots i (loaded_with n frame))))
-    → OnErr r (Runs b (event.Claim 0 n ∷ event.Drop 0 n ∷ []) d) → OnErr r ((d.table ≡ b.table) × (d.slots ≡ b.slots))
-    → IfErr r (λ err. (err ≢ refusal.Full) × (err ≢ refusal.WriteFault)) → IsReplaced a n due i r d
-replaced a b d n due i r valid absent live gone left inside handle loaded seated dropped stayed own = go r handle loaded seated dropped stayed own
+-- a fetch by the same key names, of the same of as many stores
+fetch_same : (levels levels' : List Level) (keys keys' : KeyNames) (lanes lanes' n : ℕ) (r : Result (Unit {0}) FetchErr) (calls : List StoreCall) → levels ≡ levels' → keys ≡ keys' → lanes ≡ lanes'
+    → AreFetch levels keys (lane_of n lanes) n r calls → AreFetch levels' keys' (lane_of n lanes') n r calls
+fetch_same levels levels' keys keys' lanes lanes' n r calls l k s f =
+    subst (λ m. AreFetch levels' keys' (lane_of n m) n r calls) s (subst (λ x. AreFetch levels' x (lane_of n lanes) n r calls) k (subst (λ x. AreFetch x keys (lane_of n lanes) n r calls) l f))
+
+-- what was got after events was got of the same store
+got_same : (a b : Cached) (n : ℕ) (events : List Event) (r : Result Handle AcquireErr) (calls : List StoreCall) → Runs a events b → IsGot b n r calls → IsGot a n r calls
+got_same a b n events (Ok h) calls runs got = fetch_same b.levels a.levels b.keys a.keys (length b.shown) (length a.shown) n (Ok tt) calls runs.moves.levels runs.moves.keys runs.moves.stores.lanes got
+got_same a b n events (Err e) calls runs (cause, fetched, is) =
+    (cause, fetch_same b.levels a.levels b.keys a.keys (length b.shown) (length a.shown) n (Err cause) calls runs.moves.levels runs.moves.keys runs.moves.stores.lanes fetched, is)
+
+-- a cell left, and another was loaded in its place, or not
+pub replaced : (a b d : Cached) (n due i : ℕ) (r : Result Handle AcquireErr) → slot_of a n ≡ None → slot_of a due ≡ Some i → Runs a (event.Close 0 due ∷ event.Gone 0 due (slot_at a i).marked ∷ []) b
+    → (puts : List StoreCall) × IsTurnedOut a due i (Ok tt) puts × AreCalled puts a.shown b.shown → IfOk r (λ h. h ≡ record { cell = n; slot = i; loaded = true })
+    → OnOk r (Runs b (event.Claim 0 n ∷ event.Live 0 n i ∷ []) d) → OnErr r (Runs b (event.Claim 0 n ∷ event.Drop 0 n ∷ []) d) → (gets : List StoreCall) × IsGot b n r gets × AreCalled gets b.shown d.shown
+    → (events : List Event) × (calls : List StoreCall) × IsReplaced a n due i r events calls × Runs a events d × AreCalled calls a.shown d.shown
+replaced a b d n due i r absent live gone (puts, turned, put) handle loaded dropped (gets, got, called) = go r handle loaded dropped got
   where
-    first : i < length a.slots
-    first = (valid.seated.in_slot due i live).0
+    all : AreCalled (puts ++ gets) a.shown d.shown
+    all = called_on a.shown b.shown d.shown puts gets put called
 
-    in_b : i < length b.slots
-    in_b = subst (λ k. i < k) (sym (ap length left.1 ∙ length-set a.slots i (emptied (slot_at a i)))) first
-
-    none : (b.slots ≡ slice_set a.slots i (emptied (slot_at a i))) → (d.slots ≡ b.slots) → (slot_at d i).pins ≡ 0
-    none p q = ap (λ l. (slot_in l i).pins) (q ∙ p) ∙ emptied_pins a.slots i (slot_at a i) first
-
-    off : Runs b (event.Claim 0 n ∷ event.Drop 0 n ∷ []) d → Runs a (event.Claim 0 n ∷ event.Close 0 due ∷ event.Gone 0 due (slot_at a i).marked ∷ event.Drop 0 n ∷ []) d
-    off h = runs_claim_first a d n due (slot_at a i).marked (event.Drop 0 n) (not_due a n due i absent live) (λ _ _ _. refl) (runs_on a b d _ _ gone h)
-
-    go : (r : Result Handle AcquireErr) → IfOk r (λ h. h ≡ record { cell = n; slot = i; loaded = true })
-        → OnOk r (Runs b (event.Claim 0 n ∷ event.Live 0 n i ∷ []) d) → OnOk r ((d.table ≡ slice_set b.table n (Some i)) × ((frame : List ℕ) × (d.slots ≡ slice_set b.slots i (loaded_with n frame))))
-        → OnErr r (Runs b (event.Claim 0 n ∷ event.Drop 0 n ∷ []) d) → OnErr r ((d.table ≡ b.table) × (d.slots ≡ b.slots))
-        → IfErr r (λ err. (err ≢ refusal.Full) × (err ≢ refusal.WriteFault)) → IsReplaced a n due i r d
-    go (Ok h) handle loaded seated dropped stayed own = (
-      handle,
+    go : (r : Result Handle AcquireErr) → IfOk r (λ h. h ≡ record { cell = n; slot = i; loaded = true }) → OnOk r (Runs b (event.Claim 0 n ∷ event.Live 0 n i ∷ []) d) → OnErr r (Runs b (event.Claim 0 n ∷ event.Drop 0 n ∷ []) d)
+        → IsGot b n r gets → (events : List Event) × (calls : List StoreCall) × IsReplaced a n due i r events calls × Runs a events d × AreCalled calls a.shown d.shown
+    go (Ok h) handle loaded dropped got = (
+      event.Claim 0 n ∷ event.Close 0 due ∷ event.Gone 0 due (slot_at a i).marked ∷ event.Live 0 n i ∷ [],
+      puts ++ gets,
+      (handle, record { gets = gets; got = got_same a b n _ (Ok h) gets gone got; events_are = refl; calls_are = ap (λ l. l ++ gets) turned }),
       runs_claim_first a d n due (slot_at a i).marked (event.Live 0 n i) (not_due a n due i absent live) (λ _ _ _. refl) (runs_on a b d _ _ gone loaded),
-      ap (λ t. slice_index_or t n None) seated.0 ∙ get_or-set_same b.table n (Some i) None inside,
-      ap (λ l. (slot_in l i).pins) seated.1.1 ∙ ap (λ (t : SlotValue). t.pins) (get_or-set_same b.slots i (loaded_with n seated.1.0) no_slot in_b),
+      all,
     )
-    go (Err refusal.ReadFault) handle loaded seated dropped stayed own = (none left.1 stayed.1, off dropped)
-    go (Err refusal.WriteFault) handle loaded seated dropped stayed own = absurd (own.1 refl)
-    go (Err (refusal.Malformed edited err)) handle loaded seated dropped stayed own = (none left.1 stayed.1, off dropped)
-    go (Err (refusal.TooLong edited len limit)) handle loaded seated dropped stayed own = (none left.1 stayed.1, off dropped)
-    go (Err refusal.Full) handle loaded seated dropped stayed own = absurd (own.0 refl)
-    go (Err refusal.Memory) handle loaded seated dropped stayed own = (none left.1 stayed.1, inr (off dropped))
+    go (Err err) handle loaded dropped got = (
+      event.Claim 0 n ∷ event.Close 0 due ∷ event.Gone 0 due (slot_at a i).marked ∷ event.Drop 0 n ∷ [],
+      puts ++ gets,
+      inl (record { gets = gets; got = got_same a b n _ (Err err) gets gone got; events_are = refl; calls_are = ap (λ l. l ++ gets) turned }),
+      runs_claim_first a d n due (slot_at a i).marked (event.Drop 0 n) (not_due a n due i absent live) (λ _ _ _. refl) (runs_on a b d _ _ gone dropped),
+      all,
+    )
 
--- what a cell that could not be put makes of a replacing
-pub held_up : (a b : Cached) (n due i : ℕ) → IsCache a → n < length a.table → slot_of a n ≡ None → slot_of a due ≡ Some i → Runs a (event.Close 0 due ∷ event.Back 0 due ∷ []) b
-    → Runs a (event.Claim 0 n ∷ event.Close 0 due ∷ event.Back 0 due ∷ event.Drop 0 n ∷ []) b
-held_up a b n due i valid inside absent live back = runs_claim_round a b n due (not_due a n due i absent live) (subst (λ k. n < k) valid.fitted.cells inside) (ap (state_at a.slots) absent) back
+-- the handle on what was loaded there
+pub seated_after : (a b d : Cached) (n i : ℕ) (r : Result Handle AcquireErr) → i < length a.slots → n < length b.table → b.slots ≡ slice_set a.slots i (emptied (slot_at a i)) → IfOk r (λ h. h ≡ record { cell = n; slot = i; loaded = true })
+    → OnOk r ((d.table ≡ slice_set b.table n (Some i)) × ((frame : List ℕ) × (d.slots ≡ slice_set b.slots i (loaded_with n frame)))) → IfOk r (λ h. IsHandleOf d h)
+seated_after a b d n i (Ok h) lt inside left handle seated = subst (IsHandleOf d) (sym handle) (handle_placed d n i b.slots (loaded_with n seated.1.0) (subst (λ k. i < k) (sym (ap length left ∙ length-set a.slots i (emptied (slot_at a i)))) lt) seated.1.1
+    (ap (λ t. slice_index_or t n None) seated.0 ∙ get_or-set_same b.table n (Some i) None inside) (omega arith) true)
+seated_after a b d n i (Err e) lt inside left handle seated = tt
+
+-- the refusal of an acquire by that of a save
+abbrev pub refused_put : SaveErr → AcquireErr
+refused_put saving.WriteFault = refusal.WriteFault
+refused_put saving.Memory = refusal.Memory
+
+refused : (cause : SaveErr) (answer : Put) → Err cause ≡ save_answer answer → refusal_of_put answer ≡ Some (refused_put cause)
+refused saving.WriteFault put.Done e = absurd (cc)
+refused saving.WriteFault put.Failed e = refl
+refused saving.WriteFault put.NoMemory e = absurd (cc)
+refused saving.Memory put.Done e = absurd (cc)
+refused saving.Memory put.Failed e = absurd (cc)
+refused saving.Memory put.NoMemory e = refl
+
+-- a cell could not be put, and came back
+pub held_back : (a b : Cached) (n due i : ℕ) (cause err : SaveErr) → cause ≡ err → IsCache a → n < length a.table → slot_of a n ≡ None → slot_of a due ≡ Some i → (slot_at a i).marked ≡ true → Runs a (event.Close 0 due ∷ event.Back 0 due ∷ []) b
+    → (puts : List StoreCall) × IsTurnedOut a due i (Err cause) puts × AreCalled puts a.shown b.shown
+    → (events : List Event) × (calls : List StoreCall) × IsReplaced a n due i (Err (refused_put err)) events calls × Runs a events b × AreCalled calls a.shown b.shown
+held_back a b n due i cause err same valid inside absent live mark back (puts, (answer, told, are), put) = (
+  event.Claim 0 n ∷ event.Close 0 due ∷ event.Back 0 due ∷ event.Drop 0 n ∷ [],
+  puts,
+  inr (record { marked = mark; answer = answer; err_is = refused cause answer told ∙ ap (λ e. Some (refused_put e)) same; events_are = refl; calls_are = are }),
+  runs_claim_round a b n due (not_due a n due i absent live) (subst (λ k. n < k) valid.fitted.cells inside) (ap (state_at a.slots) absent) back,
+  put,
+)
 
 -- the causes of what was refused after a cell left
 pub caused_on : (a b d : Cached) (n due i : ℕ) (events : List Event) (r : Result Handle AcquireErr) → Runs a events b → IsCaused b d n r → IfErr r (λ err. (err ≢ refusal.Full) × (err ≢ refusal.WriteFault)) → IsReplacedBy a d n due r

@@ -1,7 +1,11 @@
 -- The closing of slots one after another.
-use Rattle.std.proofs.Common.{◌≡◌, ◌≢◌, ◌∙◌, inl, inr, ℕ, ◌+◌, ◌<◌, ◌≤◌, Bool, true, false, List, [], ◌∷◌, ◌++◌, length, take, Option, None, Some, refl, sym, ap, subst, arith}
+use Rattle.std.proofs.Common.{◌≡◌, ◌≢◌, ◌∙◌, inl, inr, ℕ, ◌+◌, ◌<◌, ◌≤◌, Bool, true, false, List, [], ◌∷◌, ◌++◌, length, take, Option, None, Some, Ok, Err, refl, sym, ap, subst, arith}
 use Rattle.std.specs.List.{count_by}
 use Rattle.std.proofs.lemmas.List.{append-nil, append_assoc, length-append, take_more, take_all, length-take-le}
+use Rattle.store_calls.specs.Calls.{StoreCall, AreCalled}
+use Rattle.store_calls.proofs.Composed.{called_on}
+use Rattle.cell_file.specs.declared.errors.SaveErr.{SaveErr}
+use Rattle.cell_file.specs.declared.errors.SaveErr.TheVariants as saving
 use Rattle.arr_history.specs.declared.closed.Unsaved.{Unsaved}
 use Rattle.arr_history.specs.declared.tally.Tally.{Tally}
 use Rattle.arr_history.specs.declared.event.Event.{Event}
@@ -14,6 +18,9 @@ use Rattle.sole_cache.specs.Cached.{Cached, slot_at, store_of, handles_out}
 use Rattle.sole_cache.specs.Valid.{IsCache}
 use Rattle.sole_cache.specs.Moves.{Moves}
 use Rattle.sole_cache.specs.Shut.{IsClosedAt, IsClosedSlot, AreClosed, failed_puts, AreCaused, Licenses, ClosesSlot, IsShut}
+use Rattle.sole_cache.specs.Asked.{IsTurnedOut}
+use Rattle.sole_cache.specs.Puts.{IsPutWhere, IsPutAt, IsPutSlot, ArePut}
+use Rattle.sole_cache.proofs.Puts.{put_more, put_gone, named}
 use Rattle.sole_cache.proofs.Composed.{runs_none, moves_on}
 use Rattle.sole_cache.proofs.Faults.{caused_before, caused_later, caused_both, none_failed, both_failed, one_failed}
 use Rattle.sole_cache.proofs.Handles.{moves_counted}
@@ -69,12 +76,16 @@ closes_none c i was valid none = record {
   tally = (runs_none c valid).tally;
   caused = tt;
   licensed = none_failed c c [] (runs_none c valid).moves.stores;
+  calls = [];
+  called = refl;
+  puts = subst (λ o. IsPutAt c.levels (length c.shown) (slot_at c i) o [] []) (sym none) (refl, refl);
 }
 
 -- of one whose cell is gone
 pub closes_gone : (c b : Cached) (i n : ℕ) (saved : Bool) (was : List Unsaved) → (slot_at c i).cell ≡ Some n → saved ≡ (slot_at c i).marked → Moves c (event.Close 0 n ∷ event.Gone 0 n (slot_at c i).marked ∷ []) b → b.tally ≡ c.tally
+    → (calls : List StoreCall) × IsTurnedOut c n i (Ok tt) calls × AreCalled calls c.shown b.shown
     → ClosesSlot c (record { levels = b.levels; keys = b.keys; shown = b.shown; table = b.table; slots = b.slots; order = b.order; tally = raised b.tally [] (event.Gone 0 n saved ∷ []) }) i was was
-closes_gone c b i n saved was cell mark moves same = record {
+closes_gone c b i n saved was cell mark moves same (calls, turned, called) = record {
   events = event.Close 0 n ∷ event.Gone 0 n (slot_at c i).marked ∷ [];
   more = [];
   closed = subst (λ o. IsClosedAt (slot_at c i) o [] (event.Close 0 n ∷ event.Gone 0 n (slot_at c i).marked ∷ [])) (sym cell) (inl (refl, refl));
@@ -83,12 +94,16 @@ closes_gone c b i n saved was cell mark moves same = record {
   tally = ap (λ t. raised t [] (event.Gone 0 n saved ∷ [])) same ∙ ap (λ m. raised c.tally [] (event.Gone 0 n m ∷ [])) mark;
   caused = tt;
   licensed = none_failed c b (event.Close 0 n ∷ event.Gone 0 n (slot_at c i).marked ∷ []) moves.stores;
+  calls = calls;
+  called = called;
+  puts = subst (λ o. IsPutAt c.levels (length c.shown) (slot_at c i) o [] calls) (sym cell) (put_gone c.levels (length c.shown) (slot_at c i).marked n (slot_at c i).frame calls turned);
 }
 
 -- and of one whose cell came back
 pub closes_back : (c b : Cached) (i n : ℕ) (memory : Bool) (was : List Unsaved) → IsCache c → (slot_at c i).cell ≡ Some n → (slot_at c i).marked ≡ true → Moves c (event.Close 0 n ∷ event.Back 0 n ∷ []) b → b.tally ≡ c.tally
-    → (memory ≡ false → Rose (store_of c n).faults (store_of b n).faults) → ClosesSlot c b i was (was ++ record { cell = n; memory = memory } ∷ [])
-closes_back c b i n memory was valid cell mark moves same rose = record {
+    → (memory ≡ false → Rose (store_of c n).faults (store_of b n).faults) → (cause : SaveErr) → (memory ≡ true → cause ≡ saving.Memory) → (memory ≡ false → cause ≡ saving.WriteFault)
+    → (calls : List StoreCall) × IsTurnedOut c n i (Err cause) calls × AreCalled calls c.shown b.shown → ClosesSlot c b i was (was ++ record { cell = n; memory = memory } ∷ [])
+closes_back c b i n memory was valid cell mark moves same rose cause wanting failed (calls, (answer, told, are), called) = record {
   events = event.Close 0 n ∷ event.Back 0 n ∷ [];
   more = record { cell = n; memory = memory } ∷ [];
   closed = subst (λ o. IsClosedAt (slot_at c i) o (record { cell = n; memory = memory } ∷ []) (event.Close 0 n ∷ event.Back 0 n ∷ [])) (sym cell) (inr (mark, (memory, (refl, refl))));
@@ -97,6 +112,10 @@ closes_back c b i n memory was valid cell mark moves same rose = record {
   tally = same ∙ sym (raised_none c.tally (event.Close 0 n ∷ event.Back 0 n ∷ []) valid.counted (uncounted_back n));
   caused = (rose, tt);
   licensed = one_failed c b (event.Close 0 n ∷ event.Back 0 n ∷ []) n memory moves.stores rose;
+  calls = calls;
+  called = called;
+  puts = subst (λ o. IsPutAt c.levels (length c.shown) (slot_at c i) o (record { cell = n; memory = memory } ∷ []) calls) (sym cell)
+      (subst (λ m. IsPutWhere c.levels (length c.shown) m n (slot_at c i).frame (record { cell = n; memory = memory } ∷ []) calls) (sym mark) (answer, named n memory cause answer wanting failed told, are));
 }
 
 -- how far a shutting has come: so many slots were closed
@@ -110,6 +129,10 @@ pub record ShutSoFar (start now : Cached) (unsaved : List Unsaved) (k : ℕ) : T
   pub valid : IsCache now
   pub caused : AreCaused start now unsaved
   pub licensed : Licenses start.shown (failed_puts unsaved) now.shown
+  pub calls : List StoreCall
+  pub called : AreCalled calls start.shown now.shown
+  pub puts : ArePut start.levels (length start.shown) (take k start.slots) unsaved calls
+  pub begun : IsCache start
 
 pub shut_begun : (c : Cached) → IsCache c → ShutSoFar c c [] 0
 shut_begun c valid = record {
@@ -122,6 +145,10 @@ shut_begun c valid = record {
   valid = valid;
   caused = tt;
   licensed = none_failed c c [] (runs_none c valid).moves.stores;
+  calls = [];
+  called = refl;
+  puts = (refl, refl);
+  begun = valid;
 }
 
 pub shut_one : (a b d : Cached) (was is : List Unsaved) (k : ℕ) → k < length a.slots → ShutSoFar a b was k → ClosesSlot b d k was is → ((i : ℕ) → i ≢ k → slot_at d i ≡ slot_at b i) → length d.slots ≡ length b.slots → IsCache d → ShutSoFar a d is (k + 1)
@@ -136,6 +163,12 @@ shut_one a b d was is k lt far one others size valid = record {
   valid = valid;
   caused = subst (λ u. AreCaused a d u) (sym one.named) (caused_both a d was one.more (caused_later b d one.events one.moves.stores a was far.caused) (caused_before a b far.events far.moves.stores d one.more one.caused));
   licensed = subst (λ u. Licenses a.shown (failed_puts u) d.shown) (sym one.named) (both_failed a b d one.events was one.more one.moves.stores far.licensed one.licensed);
+  calls = far.calls ++ one.calls;
+  called = called_on a.shown b.shown d.shown far.calls one.calls far.called one.called;
+  puts = subst (λ u. ArePut a.levels (length a.shown) (take (k + 1) a.slots) u (far.calls ++ one.calls)) (sym one.named)
+      (put_more a.levels (length a.shown) a.slots k was one.more far.calls one.calls lt far.puts (subst (λ x. IsPutSlot x (length a.shown) (slot_at a k) one.more one.calls) far.moves.levels
+      (subst (λ l. IsPutSlot b.levels l (slot_at a k) one.more one.calls) far.moves.stores.lanes (subst (λ s. IsPutSlot b.levels (length b.shown) s one.more one.calls) (far.others k (omega arith)) one.puts))));
+  begun = far.begun;
 }
 
 -- all slots were closed
@@ -150,6 +183,10 @@ shut_done a b unsaved k all far = record {
   stood = stood b far.valid;
   caused = far.caused;
   licensed = far.licensed;
+  calls = far.calls;
+  called = far.called;
+  puts = subst (λ l. ArePut a.levels (length a.shown) l unsaved far.calls) (take_all k a.slots all) far.puts;
+  valid = far.begun;
 }
 
 -- no slot has a pin where no handle is out

@@ -11,4 +11,5 @@ pub mod Shut
 pub mod Open
 pub mod Laws
 pub mod Acquires
+pub mod Asked
 pub mod Puts

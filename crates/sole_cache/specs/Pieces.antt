@@ -104,16 +104,7 @@ IsCellCaused old new level pos (outcome.Err cell_err.Outside) = Unit {0}
 IsCellCaused old new level pos (outcome.Err (cell_err.TooLarge value)) = Unit {0}
 IsCellCaused old new level pos (outcome.Err (cell_err.Acquire refusal)) = (cell : ℕ) × ((at : ℕ) × (IsVoxelOf old.levels level pos cell at × IsCaused old new cell (outcome.Err refusal)))
 
--- The events of a replacing: the cell of a slot leaves it, and another is loaded there, or not; or it could not be put and comes back.
-abbrev pub IsReplaced : Cached → ℕ → ℕ → ℕ → Result Handle AcquireErr → Cached → Type 0
-IsReplaced c cell due slot (outcome.Ok h) d = (h ≡ record { cell = cell; slot = slot; loaded = true }) × Runs c (Claim 0 cell ∷ Close 0 due ∷ Gone 0 due (slot_at c slot).marked ∷ Live 0 cell slot ∷ []) d
-    × (slot_of d cell ≡ Some slot) × ((slot_at d slot).pins ≡ 1)
-IsReplaced c cell due slot (outcome.Err refusal.WriteFault) d = ((slot_at c slot).marked ≡ true) × Runs c (Claim 0 cell ∷ Close 0 due ∷ Back 0 due ∷ Drop 0 cell ∷ []) d × ((slot_at d slot).pins ≡ 0)
-IsReplaced c cell due slot (outcome.Err refusal.Full) d = ⊥
-IsReplaced c cell due slot (outcome.Err refusal.Memory) d = ((slot_at d slot).pins ≡ 0) × ((((slot_at c slot).marked ≡ true) × Runs c (Claim 0 cell ∷ Close 0 due ∷ Back 0 due ∷ Drop 0 cell ∷ []) d)
-    ⊎ Runs c (Claim 0 cell ∷ Close 0 due ∷ Gone 0 due (slot_at c slot).marked ∷ Drop 0 cell ∷ []) d)
-IsReplaced c cell due slot (outcome.Err other) d = ((slot_at d slot).pins ≡ 0) × Runs c (Claim 0 cell ∷ Close 0 due ∷ Gone 0 due (slot_at c slot).marked ∷ Drop 0 cell ∷ []) d
-
+-- Why a replacing answers so.
 abbrev pub IsReplacedBy : Cached → Cached → ℕ → ℕ → Result Handle AcquireErr → Type 0
 IsReplacedBy old new cell due (outcome.Err refusal.WriteFault) = Rose (store_of old due).faults (store_of new due).faults
 IsReplacedBy old new cell due other = IsCaused old new cell other

@@ -1,8 +1,9 @@
 -- How a cache is shut.
-use Rattle.std.specs.Prelude.{◌≡◌, ◌⊎◌, ℕ, ◌+◌, ◌-◌, ◌^◌, ◌<◌, ◌≤◌, Bool, true, false, not, List, [], ◌∷◌, ◌++◌, sum_by, Option, None, Some}
+use Rattle.std.specs.Prelude.{◌≡◌, ◌⊎◌, ℕ, ◌+◌, ◌-◌, ◌^◌, ◌<◌, ◌≤◌, Bool, true, false, not, List, [], ◌∷◌, ◌++◌, length, sum_by, Option, None, Some}
 use Rattle.std.specs.List.{count_by}
 use Rattle.cell_store.specs.Faults.{Rose}
 use Rattle.cell_store.specs.Store.{Contents}
+use Rattle.store_calls.specs.Calls.{StoreCall, AreCalled}
 use Rattle.arr_history.specs.declared.closed.Unsaved.{Unsaved}
 use Rattle.arr_history.specs.declared.tally.Tally.{Tally}
 use Rattle.arr_history.specs.declared.event.Event.{Event}
@@ -10,7 +11,9 @@ use Rattle.arr_history.specs.declared.event.Event.TheVariants.{Close, Gone, Back
 use Rattle.arr_history.specs.Tally.{raised}
 use Rattle.sole_cache.specs.Slot.{SlotValue}
 use Rattle.sole_cache.specs.Cached.{Cached, slot_at, store_in, store_of}
+use Rattle.sole_cache.specs.Valid.{IsCache}
 use Rattle.sole_cache.specs.Moves.{Moves, IsStoodFor}
+use Rattle.sole_cache.specs.Puts.{IsPutSlot, ArePut}
 
 -- a cell leaves, put where it is marked; or it is marked, could not be put, and comes back and is named
 abbrev pub IsClosedCell : SlotValue → ℕ → List Unsaved → List Event → Type 0
@@ -61,6 +64,9 @@ pub record ClosesSlot (old new : Cached) (slot : ℕ) (was is : List Unsaved) : 
   pub tally : new.tally ≡ raised old.tally [] events
   pub caused : AreCaused old new more
   pub licensed : Licenses old.shown (failed_puts more) new.shown
+  pub calls : List StoreCall
+  pub called : AreCalled calls old.shown new.shown
+  pub puts : IsPutSlot old.levels (length old.shown) (slot_at old slot) more calls
 
 -- A cache was shut: its slots were closed in ascending order, by events of the shutting part. What its stores show then is what
 -- those of the last cache show, each of which stands for the array of each cell of its lane that is neither void nor named unsaved.
@@ -75,3 +81,8 @@ pub record IsShut (c : Cached) (stores : List Contents) (unsaved : List Unsaved)
   -- a cell is named for a fault only where its store failed, and each such cell has a fault of its own
   pub caused : AreCaused c last unsaved
   pub licensed : Licenses c.shown (failed_puts unsaved) stores
+  -- the calls of the stores
+  pub calls : List StoreCall
+  pub called : AreCalled calls c.shown stores
+  pub puts : ArePut c.levels (length c.shown) c.slots unsaved calls
+  pub valid : IsCache c

@@ -1,9 +1,12 @@
 //! Getting and putting a cell, by the store that it belongs to.
-ghost use Rattle.std.specs.Prelude.{◌≡◌, ◌≢◌, ◌⊎◌, ℕ, ◌+◌, ◌*◌, ◌<◌, ◌≤◌, List, IsTrue, true, false, Some, Err, OnOk, OnErr, IfErr, length, map, take, slice_index, slice_set};
+ghost use Rattle.std.specs.Prelude.{◌≡◌, ◌≢◌, ◌⊎◌, ℕ, ◌+◌, ◌*◌, ◌<◌, ◌≤◌, List, [], ◌∷◌, IsTrue, true, false, Some, Err, OnOk, OnErr, IfErr, length, map, take, slice_index, slice_set};
 ghost use Rattle.cell_grid.specs.Kind.{greatest_of};
 ghost use Rattle.cell_grid.specs.Pyramid.{cells_of, voxels_of, sides_of, kind_of, lane_of};
 ghost use Rattle.cell_store.specs.Faults.{Rose};
 ghost use Rattle.n5_block.specs.Block.{block};
+ghost use Rattle.cell_store.specs.declared.store.Put.{Put};
+ghost use Rattle.store_calls.specs.Calls.{StoreCall, AreCalled};
+ghost use Rattle.cell_file.specs.Asks.{AreFetch, save_answer, save_call};
 ghost use Rattle.cell_file.specs.File.{IsCauseOf};
 ghost use Rattle.cell_file.specs.Keys.{edited_key};
 ghost use Rattle.cell_file.specs.Standing.{width_of, standing, refusal_of};
@@ -39,6 +42,9 @@ pub fn fetch_cell<S: Store>(
     ensures read_fault { let lane = lane_of cell (length (map S.contents stores.old.items)) in result ≡ Err FetchErr.ReadFault → Rose (store_in (map S.contents stores.old.items) lane).faults (store_in (map S.contents stores.new.items) lane).faults }
     ensures fits { OnOk result ((i : ℕ) → i < voxels_of geometry.now cell → slice_index frame.new.items i ≤ greatest_of (kind_of geometry.now cell)) }
     ensures length { length frame.new.items ≡ length frame.old.items }
+
+    // The calls of the stores.
+    ensures called { let lane = lane_of cell (length (map S.contents stores.old.items)) in (calls : List StoreCall) × AreFetch geometry.now keys.now lane cell result calls × AreCalled calls (map S.contents stores.old.items) (map S.contents stores.new.items) }
 {
     let lane = lane(cell, stores.len() as u32) as usize;
     fetch(
@@ -78,6 +84,9 @@ pub fn save_cell<S: Store>(
     ensures others { let lane = lane_of cell (length (map S.contents stores.old.items)) in IsTrue (store_in (map S.contents stores.old.items) lane).told → (other : ℕ) → other < cells_of geometry.now → other ≢ cell → standing geometry.now keys.now (store_in (map S.contents stores.new.items) lane).held other ≡ standing geometry.now keys.now (store_in (map S.contents stores.old.items) lane).held other }
     ensures write_fault { let lane = lane_of cell (length (map S.contents stores.old.items)) in result ≡ Err SaveErr.WriteFault → Rose (store_in (map S.contents stores.old.items) lane).faults (store_in (map S.contents stores.new.items) lane).faults }
     ensures length { length put.new.items ≡ length put.old.items }
+
+    // The call of the stores.
+    ensures called { let lane = lane_of cell (length (map S.contents stores.old.items)) in (answer : Put) × (result ≡ save_answer answer) × AreCalled (save_call geometry.now lane cell (take (voxels_of geometry.now cell) (slot_in slots.now slot).frame) answer ∷ []) (map S.contents stores.old.items) (map S.contents stores.new.items) }
 {
     let lane = lane(cell, stores.len() as u32) as usize;
     let voxels = geometry.voxels(cell) as usize;

@@ -2,6 +2,7 @@
 ghost use Rattle.std.specs.Prelude.{◌≡◌, ◌≢◌, ◌⊎◌, ℕ, ◌+◌, ◌<◌, List, [], ◌∷◌, ◌++◌, IsTrue, true, false, Ok, Some, None, Err, OnOk, OnErr, IfOk, IfErr, length, slice_set};
 ghost use Rattle.cell_grid.specs.Pyramid.{cells_of};
 ghost use Rattle.cell_store.specs.Faults.{Rose};
+ghost use Rattle.store_calls.specs.Calls.{StoreCall, AreCalled};
 ghost use Rattle.arr_history.specs.declared.event.Event.{Event};
 ghost use Rattle.sole_cache.specs.Cached.{store_of, slot_of, slot_at, handles_out};
 ghost use Rattle.sole_cache.specs.Value.{by};
@@ -11,7 +12,9 @@ ghost use Rattle.sole_cache.specs.Moves.{Moves, Runs, IsStoodFor};
 ghost use Rattle.sole_cache.specs.Handle.{Handle, IsHandleOf};
 ghost use Rattle.arr_history.specs.declared.event.Event.TheVariants as happening;
 ghost use Rattle.sole_cache.specs.Slot.{loaded_with, emptied};
-ghost use Rattle.sole_cache.specs.Pieces.{IsPiece, IsCaused, IsLook, IsReplaced, IsReplacedBy};
+ghost use Rattle.sole_cache.specs.Pieces.{IsCaused, IsReplacedBy};
+ghost use Rattle.sole_cache.specs.Acquires.{Acquires, Looks};
+ghost use Rattle.sole_cache.specs.Asked.{IsGot, IsTurnedOut, IsReplaced};
 
 use crate::cache::SoleCache;
 use crate::handle::SoleHandle;
@@ -31,7 +34,7 @@ impl<S: Store> SoleCache<S> {
         requires cell { cell < cells_of self.old.levels }
         requires room { handles_out (by S.contents self.old) < 64 }
 
-        ensures events { (events : List Event) × (IsPiece (by S.contents self.old) cell result events × Runs (by S.contents self.old) events (by S.contents self.new)) }
+        ensures acquires { (events : List Event) × (calls : List StoreCall) × Acquires (by S.contents self.old) cell result events calls (by S.contents self.new) }
         ensures caused { IsCaused (by S.contents self.old) (by S.contents self.new) cell result }
         ensures full { slot_of (by S.contents self.old) cell ≡ None → IsFull (by S.contents self.old) → result ≡ Err AcquireErr.Full }
 
@@ -64,7 +67,7 @@ impl<S: Store> SoleCache<S> {
         requires cell { cell < cells_of self.old.levels }
         requires room { handles_out (by S.contents self.old) < 64 }
 
-        ensures events { (events : List Event) × (IsLook (by S.contents self.old) cell result events × Runs (by S.contents self.old) events (by S.contents self.new)) }
+        ensures looks { (events : List Event) × Looks (by S.contents self.old) cell result events (by S.contents self.new) }
         ensures handle { IfOk result (λ h. IsHandleOf (by S.contents self.new) h) }
         ensures granted { OnOk result (handles_out (by S.contents self.new) ≡ handles_out (by S.contents self.old) + 1) }
         ensures refused { OnErr result (handles_out (by S.contents self.new) ≡ handles_out (by S.contents self.old)) }
@@ -97,6 +100,7 @@ impl<S: Store> SoleCache<S> {
         ensures seated { OnOk result ((self.new.table ≡ slice_set self.old.table cell (Some slot)) × ((frame : List ℕ) × (self.new.slots ≡ slice_set self.old.slots slot (loaded_with cell frame)))) }
         ensures dropped { OnErr result (Runs (by S.contents self.old) (happening.Claim 0 cell ∷ happening.Drop 0 cell ∷ []) (by S.contents self.new)) }
         ensures stayed { OnErr result ((self.new.table ≡ self.old.table) × (self.new.slots ≡ self.old.slots)) }
+        ensures asked { (calls : List StoreCall) × IsGot (by S.contents self.old) cell result calls × AreCalled calls (by S.contents self.old).shown (by S.contents self.new).shown }
         ensures caused { IsCaused (by S.contents self.old) (by S.contents self.new) cell result }
         ensures own { IfErr result (λ err. (err ≢ AcquireErr.Full) × (err ≢ AcquireErr.WriteFault)) }
         ensures valid { IsCache (by S.contents self.new) }
@@ -119,7 +123,8 @@ impl<S: Store> SoleCache<S> {
         requires taken { IsLowestFree self.old.slots None }
         requires due { slot_of (by S.contents self.old) due ≡ Some slot }
         requires unpinned { (slot_at (by S.contents self.old) slot).pins ≡ 0 }
-        ensures replaced { IsReplaced (by S.contents self.old) cell due slot result (by S.contents self.new) }
+        ensures replaced { (events : List Event) × (calls : List StoreCall) × IsReplaced (by S.contents self.old) cell due slot result events calls × Runs (by S.contents self.old) events (by S.contents self.new) × AreCalled calls (by S.contents self.old).shown (by S.contents self.new).shown }
+        ensures seated { IfOk result (λ h. IsHandleOf (by S.contents self.new) h) }
         ensures caused { IsReplacedBy (by S.contents self.old) (by S.contents self.new) cell due result }
         ensures others { (i : ℕ) → i ≢ slot → slot_at (by S.contents self.new) i ≡ slot_at (by S.contents self.old) i }
         ensures granted { OnOk result (handles_out (by S.contents self.new) ≡ handles_out (by S.contents self.old) + 1) }
@@ -146,6 +151,7 @@ impl<S: Store> SoleCache<S> {
         ensures seated { OnOk result ((self.new.table ≡ slice_set self.old.table cell (Some slot)) × ((frame : List ℕ) × (self.new.slots ≡ slice_set self.old.slots slot (loaded_with cell frame)))) }
         ensures dropped { OnErr result (Runs (by S.contents self.old) (happening.Claim 0 cell ∷ happening.Drop 0 cell ∷ []) (by S.contents self.new)) }
         ensures stayed { OnErr result ((self.new.table ≡ self.old.table) × (self.new.slots ≡ self.old.slots)) }
+        ensures asked { (calls : List StoreCall) × IsGot (by S.contents self.old) cell result calls × AreCalled calls (by S.contents self.old).shown (by S.contents self.new).shown }
         ensures caused { IsCaused (by S.contents self.old) (by S.contents self.new) cell result }
         ensures own { IfErr result (λ err. (err ≢ AcquireErr.Full) × (err ≢ AcquireErr.WriteFault)) }
         ensures valid { IsCache (by S.contents self.new) }
@@ -168,6 +174,7 @@ impl<S: Store> SoleCache<S> {
         ensures back { OnErr result (Runs (by S.contents self.old) (happening.Close 0 cell ∷ happening.Back 0 cell ∷ []) (by S.contents self.new)) }
         ensures stayed { OnErr result ((self.new.table ≡ self.old.table) × (self.new.slots ≡ self.old.slots)) }
         ensures marked { OnErr result ((slot_at (by S.contents self.old) slot).marked ≡ true) }
+        ensures asked { (calls : List StoreCall) × IsTurnedOut (by S.contents self.old) cell slot result calls × AreCalled calls (by S.contents self.old).shown (by S.contents self.new).shown }
         ensures write_fault { result ≡ Err SaveErr.WriteFault → Rose (store_of (by S.contents self.old) cell).faults (store_of (by S.contents self.new) cell).faults }
         ensures sound { IsCache (by S.contents self.old) }
         ensures valid { IsCache (by S.contents self.new) }

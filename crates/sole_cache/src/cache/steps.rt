@@ -3,6 +3,9 @@ ghost use Rattle.std.specs.Prelude.{◌≡◌, ◌≢◌, ℕ, ◌+◌, ◌-◌,
 ghost use Rattle.cell_grid.specs.Pyramid.{cells_of, voxels_of, sides_of};
 ghost use Rattle.cell_store.specs.Faults.{Rose};
 ghost use Rattle.n5_block.specs.Block.{block};
+ghost use Rattle.cell_store.specs.declared.store.Put.{Put};
+ghost use Rattle.store_calls.specs.Calls.{StoreCall, AreCalled};
+ghost use Rattle.cell_file.specs.Asks.{AreFetch, save_answer};
 ghost use Rattle.cell_file.specs.File.{IsCauseOf};
 ghost use Rattle.cell_file.specs.Keys.{edited_key};
 ghost use Rattle.cell_file.specs.Standing.{width_of, refusal_of};
@@ -13,6 +16,8 @@ ghost use Rattle.sole_cache.specs.Cached.{store_of, stands, slot_of, slot_at, ha
 ghost use Rattle.sole_cache.specs.Value.{by, over, vacated};
 ghost use Rattle.sole_cache.specs.Valid.{IsCache};
 ghost use Rattle.sole_cache.specs.Moves.{IsSaved, Moves, Runs};
+ghost use Rattle.sole_cache.specs.Acquires.{lane_at, put_call};
+ghost use Rattle.sole_cache.specs.Asked.{IsTurnedOut};
 
 use crate::cache::SoleCache;
 use crate::outside::{fetch_cell, save_cell};
@@ -27,6 +32,7 @@ impl<S: Store> SoleCache<S> {
         requires live { slot_of (by S.contents self.old) cell ≡ Some slot }
         requires room { handles_out (by S.contents self.old) < 64 }
         ensures runs { Runs (by S.contents self.old) (happening.Pin 0 cell ∷ []) (by S.contents self.new) }
+        ensures stores { self.new.stores ≡ self.old.stores }
         ensures table { self.new.table ≡ self.old.table }
         ensures slots { let s = slot_at (by S.contents self.old) slot in self.new.slots ≡ slice_set self.old.slots slot (with_pins s (s.pins + 1)) }
         ensures valid { IsCache (by S.contents self.new) }
@@ -59,6 +65,7 @@ impl<S: Store> SoleCache<S> {
         ensures back { OnErr result (Moves (by S.contents self.old) (happening.Close 0 cell ∷ happening.Back 0 cell ∷ []) (by S.contents self.new)) }
         ensures stayed { OnErr result ((self.new.table ≡ self.old.table) × (self.new.slots ≡ self.old.slots)) }
         ensures marked { OnErr result ((slot_at (by S.contents self.old) slot).marked ≡ true) }
+        ensures asked { (calls : List StoreCall) × IsTurnedOut (by S.contents self.old) cell slot result calls × AreCalled calls (by S.contents self.old).shown (by S.contents self.new).shown }
         ensures tally { self.new.tally ≡ self.old.tally }
         ensures unsaved { self.new.unsaved ≡ self.old.unsaved }
         ensures write_fault { result ≡ Err SaveErr.WriteFault → Rose (store_of (by S.contents self.old) cell).faults (store_of (by S.contents self.new) cell).faults }
@@ -83,6 +90,7 @@ impl<S: Store> SoleCache<S> {
         ensures saved { OnOk result (IsSaved (by S.contents self.old) cell slot (by S.contents self.new).shown) }
         ensures back { OnErr result (Moves (by S.contents self.old) (happening.Close 0 cell ∷ happening.Back 0 cell ∷ []) (by S.contents self.new)) }
         ensures stayed { OnErr result ((self.new.table ≡ self.old.table) × (self.new.slots ≡ self.old.slots)) }
+        ensures asked { (answer : Put) × (result ≡ save_answer answer) × AreCalled (put_call (by S.contents self.old) cell slot answer ∷ []) (by S.contents self.old).shown (by S.contents self.new).shown }
         ensures tally { self.new.tally ≡ self.old.tally }
         ensures unsaved { self.new.unsaved ≡ self.old.unsaved }
         ensures write_fault { result ≡ Err SaveErr.WriteFault → Rose (store_of (by S.contents self.old) cell).faults (store_of (by S.contents self.new) cell).faults }
@@ -132,6 +140,7 @@ impl<S: Store> SoleCache<S> {
         ensures dropped { OnErr result (Runs (by S.contents self.old) (happening.Claim 0 cell ∷ happening.Drop 0 cell ∷ []) (by S.contents self.new)) }
         ensures stayed { OnErr result ((self.new.table ≡ self.old.table) × (self.new.slots ≡ self.old.slots)) }
 
+        ensures asked { (calls : List StoreCall) × AreFetch self.old.levels self.old.keys (lane_at (by S.contents self.old) cell) cell result calls × AreCalled calls (by S.contents self.old).shown (by S.contents self.new).shown }
         ensures stood { IsTrue (store_of (by S.contents self.old) cell).told → OnOk result ((values : List ℕ) × (stands (by S.contents self.old) cell ≡ Some values)) }
         ensures refused { IsTrue (store_of (by S.contents self.old) cell).told → IfErr result (λ err. IsCauseOf (refusal_of self.old.levels self.old.keys (store_of (by S.contents self.old) cell).held cell) err) }
         ensures read_fault { result ≡ Err FetchErr.ReadFault → Rose (store_of (by S.contents self.old) cell).faults (store_of (by S.contents self.new) cell).faults }
@@ -158,6 +167,7 @@ impl<S: Store> SoleCache<S> {
         requires live { slot_of (by S.contents self.old) cell ≡ Some slot }
         requires pinned { 0 < (slot_at (by S.contents self.old) slot).pins }
         ensures runs { Runs (by S.contents self.old) (happening.Unpin 0 cell ∷ []) (by S.contents self.new) }
+        ensures stores { self.new.stores ≡ self.old.stores }
         ensures table { self.new.table ≡ self.old.table }
         ensures slots { let s = slot_at (by S.contents self.old) slot in self.new.slots ≡ slice_set self.old.slots slot (with_pins s (s.pins - 1)) }
         ensures valid { IsCache (by S.contents self.new) }

@@ -2,6 +2,7 @@
 ghost use Rattle.std.specs.Prelude.{◌≡◌, ◌≢◌, ℕ, ◌+◌, ◌<◌, ◌≤◌, List, [], ◌∷◌, ◌++◌, IsTrue, Ok, Some, None, Err, OnOk, OnErr, IfOk, length};
 ghost use Rattle.cell_grid.specs.Pyramid.{cells_of, voxels_of, kind_of};
 ghost use Rattle.cell_grid.specs.Kind.{greatest_of};
+ghost use Rattle.store_calls.specs.Calls.{StoreCall};
 ghost use Rattle.arr_history.specs.declared.event.Event.{Event};
 ghost use Rattle.arr_history.specs.declared.event.Event.TheVariants as happening;
 ghost use Rattle.sole_cache.specs.Cached.{slot_of, slot_at, state_of, handles_out};
@@ -10,6 +11,7 @@ ghost use Rattle.sole_cache.specs.Valid.{IsCache};
 ghost use Rattle.sole_cache.specs.Moves.{Runs, IsStoodFor};
 ghost use Rattle.sole_cache.specs.Handle.{Handle, IsHandleOf};
 ghost use Rattle.sole_cache.specs.Pieces.{IsGet, IsSet, IsCellCaused};
+ghost use Rattle.sole_cache.specs.Acquires.{Quiet, GetsVoxel, SetsVoxel};
 
 use crate::cache::SoleCache;
 use crate::handle::SoleHandle;
@@ -25,6 +27,7 @@ impl<S: Store> SoleCache<S> {
         ensures value { result ≡ (state_of (by S.contents self.old)).arrays h.now.cell at }
         ensures runs { Runs (by S.contents self.old) (happening.Read 0 h.now.cell at result ∷ []) (by S.contents self.new) }
         ensures unchanged { self.new ≡ self.old }
+        ensures valid { IsCache (by S.contents self.new) }
     {
         value_of(self.slots.as_slice(), h.slot() as usize, at as usize)
     }
@@ -35,6 +38,7 @@ impl<S: Store> SoleCache<S> {
         requires at { at < voxels_of self.old.levels h.now.cell }
         requires value { value ≤ greatest_of (kind_of self.old.levels h.now.cell) }
         ensures runs { Runs (by S.contents self.old) (happening.Mark 0 h.now.cell ∷ happening.Write 0 h.now.cell at value ∷ []) (by S.contents self.new) }
+        ensures stores { self.new.stores ≡ self.old.stores }
         ensures handles { handles_out (by S.contents self.new) ≡ handles_out (by S.contents self.old) }
         ensures held { (other : Handle) → IsHandleOf (by S.contents self.old) other → IsHandleOf (by S.contents self.new) other }
         ensures stood { IsStoodFor (by S.contents self.new) }
@@ -45,7 +49,7 @@ impl<S: Store> SoleCache<S> {
     /// Gives a handle back.
     pub fn release(&mut self, h: SoleHandle)
         requires handle { IsHandleOf (by S.contents self.old) h }
-        ensures runs { Runs (by S.contents self.old) (happening.Unpin 0 h.cell ∷ []) (by S.contents self.new) }
+        ensures quiet { Quiet (by S.contents self.old) (happening.Unpin 0 h.cell ∷ []) (by S.contents self.new) }
         ensures handles { handles_out (by S.contents self.old) ≡ handles_out (by S.contents self.new) + 1 }
         ensures held { (other : Handle) → other.slot ≢ h.slot → IsHandleOf (by S.contents self.old) other → IsHandleOf (by S.contents self.new) other }
         ensures stood { IsStoodFor (by S.contents self.new) }
@@ -59,6 +63,7 @@ impl<S: Store> SoleCache<S> {
     pub fn get(&mut self, level: u8, pos: [u64; 3]) -> Result<u64, CellErr>
         requires room { handles_out (by S.contents self.old) < 64 }
         ensures events { (events : List Event) × (IsGet (by S.contents self.old) level pos result events × Runs (by S.contents self.old) events (by S.contents self.new)) }
+        ensures asks { (calls : List StoreCall) × GetsVoxel (by S.contents self.old) level pos result calls (by S.contents self.new) }
         ensures caused { IsCellCaused (by S.contents self.old) (by S.contents self.new) level pos result }
         ensures handles { handles_out (by S.contents self.new) ≡ handles_out (by S.contents self.old) }
         ensures stood { IsStoodFor (by S.contents self.new) }
@@ -82,6 +87,7 @@ impl<S: Store> SoleCache<S> {
     pub fn set(&mut self, level: u8, pos: [u64; 3], value: u64) -> Result<(), CellErr>
         requires room { handles_out (by S.contents self.old) < 64 }
         ensures events { (events : List Event) × (IsSet (by S.contents self.old) level pos value result events × Runs (by S.contents self.old) events (by S.contents self.new)) }
+        ensures asks { (calls : List StoreCall) × SetsVoxel (by S.contents self.old) level pos value result calls (by S.contents self.new) }
         ensures caused { IsCellCaused (by S.contents self.old) (by S.contents self.new) level pos result }
         ensures handles { handles_out (by S.contents self.new) ≡ handles_out (by S.contents self.old) }
         ensures stood { IsStoodFor (by S.contents self.new) }

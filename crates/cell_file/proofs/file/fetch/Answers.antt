@@ -1,8 +1,9 @@
-use Rattle.std.proofs.Common.{◌∙◌, List, refl, sym, ap}
+use Rattle.std.proofs.Common.{◌∙◌, true, false, List, refl, sym, ap}
 use Rattle.std.proofs.lemmas.Result.{on_ok_weaker}
 use Rattle.cell_grid.specs.declared.level.Level.{Level}
 use Rattle.cell_store.specs.declared.store.Got.TheVariants as got
 use Rattle.cell_file.specs.Keys.{edited_key, base_key}
+use Rattle.cell_file.proofs.AskLemmas.{decided}
 use Rattle.cell_file.proofs.FetchLemmas.{if_err_weaker, gets_at, first_values, first_refusal, first_logs, first_logs_refusal, two_values, two_refusal, second_logs, second_logs_refusal}
 use Rattle.cell_file.proofs.file.fetch.Goals as goal
 
@@ -69,3 +70,31 @@ returns-in_default-clause-logged_refused g c = λ told_log.
     let edited = c.as_str.ensures.value ∙ c.edited-edited.ensures.key ∙ ap (λ (l : List Level). edited_key l c.args.cell) c.requires.made in
     let gets = gets_at _ _ _ _ _ _ c.get.result _ _ edited c.limit-limit.ensures (sym c.as_slice-in_default.ensures.value) c.get.ensures in
     if_err_weaker c.decide-in_default.result (λ err r. first_logs_refusal levels c.args.cell _ _ _ (base_key levels c.args.keys.now c.args.cell) c.get.result _ err (gets.logged told_log) r) c.decide-in_default.ensures.refused
+
+pub returns-in-Missing-clause-asked : goal.returns-in-Missing-clause-asked
+returns-in-Missing-clause-asked g c =
+    let levels = c.args.geometry.now in
+    let edited = c.as_str.ensures.value ∙ c.edited-edited.ensures.key ∙ ap (λ (l : List Level). edited_key l c.args.cell) c.requires.made in
+    let base = c.as_str-in-Missing.ensures.value ∙ c.base-base.ensures.key ∙ ap (λ (l : List Level). base_key l c.args.keys.now c.args.cell) c.requires.made in
+    let first = gets_at _ _ _ _ _ _ got.Missing _ _ edited c.limit-limit.ensures (c.in-Missing.ensures.empty (λ e. cc)) c.in-Missing.ensures in
+    let second = gets_at _ _ _ _ _ _ c.get-got.result _ _ base c.limit-limit.ensures (sym c.as_slice.ensures.value) c.get-got.ensures in
+    record {
+      edited = false;
+      answer = c.get-got.result;
+      found = _;
+      asks = (_, first, second);
+      decides = decided levels c.args.cell false c.get-got.result _ _ c.decide.result c.decide.ensures.values c.decide.ensures.refused;
+    }
+
+pub returns-in_default-clause-asked : goal.returns-in_default-clause-asked
+returns-in_default-clause-asked g c =
+    let levels = c.args.geometry.now in
+    let edited = c.as_str.ensures.value ∙ c.edited-edited.ensures.key ∙ ap (λ (l : List Level). edited_key l c.args.cell) c.requires.made in
+    let gets = gets_at _ _ _ _ _ _ c.get.result _ _ edited c.limit-limit.ensures (sym c.as_slice-in_default.ensures.value) c.get.ensures in
+    record {
+      edited = true;
+      answer = c.get.result;
+      found = _;
+      asks = (gets, c.in_default.not-Missing);
+      decides = decided levels c.args.cell true c.get.result _ _ c.decide-in_default.result c.decide-in_default.ensures.values c.decide-in_default.ensures.refused;
+    }

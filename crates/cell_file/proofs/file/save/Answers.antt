@@ -1,11 +1,13 @@
-use Rattle.std.proofs.Common.{◌≡◌, ◌∙◌, ◌+◌, ◌*◌, ◌≤◌, [], ◌∷◌, List, ℕ, length, take, slice_index, ap, subst, arith}
+use Rattle.std.proofs.Common.{◌≡◌, ◌∙◌, ◌+◌, ◌*◌, ◌≤◌, [], ◌∷◌, List, ℕ, length, take, slice_index, refl, ap, subst, arith}
 use Rattle.voxel_box.specs.Box.{volume, AreWithin}
 use Rattle.cell_grid.specs.declared.level.Level.{Level}
 use Rattle.cell_grid.specs.Pyramid.{full_of, kind_of, IsPyramid}
 use Rattle.cell_store.specs.Store.{SameElsewhere, put_in}
+use Rattle.cell_store.specs.declared.store.Put.TheVariants as put
 use Rattle.n5_block.specs.Block.{block}
 use Rattle.cell_file.specs.Keys.{edited_key}
 use Rattle.cell_file.specs.Standing.{width_of, limit_of}
+use Rattle.cell_file.proofs.AskLemmas.{puts_at}
 use Rattle.cell_file.proofs.PlaceLemmas.{full_small}
 use Rattle.cell_file.proofs.SaveLemmas.{elsewhere, others_stand_of, values_stand, block_gives, block_short, take_short}
 use Rattle.cell_file.proofs.Widths.{greatest_fits}
@@ -45,3 +47,27 @@ returns-in-NoMemory-clause-others g c = λ told.
     let edited = c.as_str.ensures.value ∙ c.edited-edited.ensures.key ∙ ap (λ (l : List Level). edited_key l c.args.cell) c.requires.made in
     let same = subst (λ (k : List ℕ). SameElsewhere (g.S.Store.contents c.args.store.now).held (g.S.Store.contents c.put.new.self).held k) edited (c.in-NoMemory.ensures.leaves told) in
     others_stand_of c.args.geometry.now c.args.keys.now c.args.cell _ _ c.requires.made c.edited-edited.ensures.keys c.requires.cell same
+
+pub returns-in-Done-clause-put : goal.returns-in-Done-clause-put
+returns-in-Done-clause-put g c =
+    let levels = c.args.geometry.now in
+    let values = c.args.values.now in
+    let edited = c.as_str.ensures.value ∙ c.edited-edited.ensures.key ∙ ap (λ (l : List Level). edited_key l c.args.cell) c.requires.made in
+    let spelled = c.write_block-len.ensures.block ∙ ap (λ (w : ℕ). block w c.sides.result values) c.width-width.ensures.bytes ∙ ap (λ (s : List ℕ). block (width_of levels c.args.cell) s values) c.sides.ensures.sides in
+    record { answer = put.Done; puts = puts_at _ _ _ _ _ _ put.Done edited spelled c.in-Done.ensures; told = refl }
+
+pub returns-in-Failed-clause-put : goal.returns-in-Failed-clause-put
+returns-in-Failed-clause-put g c =
+    let levels = c.args.geometry.now in
+    let values = c.args.values.now in
+    let edited = c.as_str.ensures.value ∙ c.edited-edited.ensures.key ∙ ap (λ (l : List Level). edited_key l c.args.cell) c.requires.made in
+    let spelled = c.write_block-len.ensures.block ∙ ap (λ (w : ℕ). block w c.sides.result values) c.width-width.ensures.bytes ∙ ap (λ (s : List ℕ). block (width_of levels c.args.cell) s values) c.sides.ensures.sides in
+    record { answer = put.Failed; puts = puts_at _ _ _ _ _ _ put.Failed edited spelled c.in-Failed.ensures; told = refl }
+
+pub returns-in-NoMemory-clause-put : goal.returns-in-NoMemory-clause-put
+returns-in-NoMemory-clause-put g c =
+    let levels = c.args.geometry.now in
+    let values = c.args.values.now in
+    let edited = c.as_str.ensures.value ∙ c.edited-edited.ensures.key ∙ ap (λ (l : List Level). edited_key l c.args.cell) c.requires.made in
+    let spelled = c.write_block-len.ensures.block ∙ ap (λ (w : ℕ). block w c.sides.result values) c.width-width.ensures.bytes ∙ ap (λ (s : List ℕ). block (width_of levels c.args.cell) s values) c.sides.ensures.sides in
+    record { answer = put.NoMemory; puts = puts_at _ _ _ _ _ _ put.NoMemory edited spelled c.in-NoMemory.ensures; told = refl }

@@ -1,4 +1,4 @@
-use Rattle.std.proofs.Common.{◌≡◌, ◌≢◌, ◌∙◌, ◌<◌, ℕ, IsTrue, Some, Err, OnOk, OnErr, length, map, take, slice_set, true, false, sym, ap, subst, arith}
+use Rattle.std.proofs.Common.{◌≡◌, ◌≢◌, ◌∙◌, ◌<◌, ℕ, List, [], ◌∷◌, IsTrue, Some, Err, OnOk, OnErr, length, map, take, slice_set, true, false, sym, ap, subst, arith}
 use Rattle.std.proofs.lemmas.Grind.{common_steps}
 use Rattle.cell_grid.specs.Pyramid.{lane_of, voxels_of, sides_of, cells_of}
 use Rattle.cell_store.specs.Faults.{Rose}
@@ -10,6 +10,11 @@ use Rattle.cell_file.specs.declared.errors.SaveErr.TheVariants as saving
 use Rattle.sole_cache.specs.Slot.{slot_in}
 use Rattle.sole_cache.specs.Cached.{store_in}
 use Rattle.sole_cache.specs.Moves.{Saved}
+use Rattle.store_calls.specs.Calls.{AreCalled}
+use Rattle.cell_store.specs.declared.store.Put.{Put}
+use Rattle.cell_file.specs.Asks.{IsPut, save_answer, save_call}
+use Rattle.std.proofs.lemmas.List.{map-set}
+use Rattle.sole_cache.proofs.Calls.{shown_at, save_called}
 use Rattle.sole_cache.proofs.Lanes.{both, map_length, was_store, is_store, one_store, saved_ok, saved_err, map_ok, put_there}
 use Rattle.sole_cache.proofs.outside.save_cell.Goals as goal
 
@@ -96,3 +101,16 @@ returns-clause-write_fault g c =
     (both (λ (a b : Contents). c.save.result ≡ Err saving.WriteFault → Rose a.faults b.faults) _ _ _ _
     (was_store g.S.Store.contents c.args.stores.now.items c.lane-lane.result _ c.index_mut.ensures.value inside) (is_store g.S.Store.contents c.args.stores.now.items c.lane-lane.result c.save.new.store inside)
     e.write_fault)
+
+pub returns-clause-called : goal.returns-clause-called
+returns-clause-called g c =
+    let framed : c.slot.inside.frame.items ≡ (slot_in c.args.slots.now c.args.slot).frame = grind (arith, common_steps) in
+    let same : take c.voxels-voxels.result c.deref.result.now ≡ take (voxels_of c.args.geometry.now c.args.cell) (slot_in c.args.slots.now c.args.slot).frame = ap (λ n. take n c.deref.result.now) c.voxels-voxels.ensures.voxels ∙ ap (take (voxels_of c.args.geometry.now c.args.cell)) (c.deref.ensures.value ∙ framed) in
+    let count : c.len.result ≡ length c.args.stores.now.items = grind (arith, common_steps) in
+    let inside : c.lane-lane.result < length c.args.stores.now.items = grind (arith, common_steps) in
+    let at : c.lane-lane.result ≡ lane_of c.args.cell (length (map g.S.Store.contents c.args.stores.now.items)) = c.lane-lane.ensures.lane ∙ ap (lane_of c.args.cell) (count ∙ sym (map_length g.S.Store.contents c.args.stores.now.items)) in
+    let values = take (voxels_of c.args.geometry.now c.args.cell) (slot_in c.args.slots.now c.args.slot).frame in
+    let put = subst (λ (v : List ℕ). IsPut c.args.geometry.now c.args.cell (g.S.Store.contents c.index_mut.result.now) (g.S.Store.contents c.save.new.store) v c.save.result) same c.save.ensures.put in
+    subst (λ k. (answer : Put) × (c.save.result ≡ save_answer answer) × AreCalled (save_call c.args.geometry.now k c.args.cell values answer ∷ []) (map g.S.Store.contents c.args.stores.now.items) (map g.S.Store.contents (slice_set c.args.stores.now.items c.lane-lane.result c.save.new.store))) at
+    (subst (λ (l : List Contents). (answer : Put) × (c.save.result ≡ save_answer answer) × AreCalled (save_call c.args.geometry.now c.lane-lane.result c.args.cell values answer ∷ []) (map g.S.Store.contents c.args.stores.now.items) l) (sym (map-set g.S.Store.contents c.args.stores.now.items c.lane-lane.result c.save.new.store))
+    (save_called c.args.geometry.now c.args.cell c.lane-lane.result _ _ _ values c.save.result (shown_at g.S.Store.contents c.args.stores.now.items c.lane-lane.result _ c.index_mut.ensures.value inside) put))

@@ -26,7 +26,7 @@ returns-in-Ok-clause-closed g c =
     let cell : (slot_at old c.args.slot).cell ≡ Some c.in-Some.cell = sym c.in-Some.ensures.owner in
     subst (λ (x : CacheValue g.row.S.Denot). ClosesSlot old (by g.S.Store.contents x) c.args.slot c.args.self.now.unsaved x.unsaved) (sym c.count_closing.ensures)
     (subst (λ (u : List Unsaved). ClosesSlot old (record { levels = mid.levels; keys = mid.keys; shown = mid.shown; table = mid.table; slots = mid.slots; order = mid.order; tally = raised mid.tally [] (happening.Gone 0 c.in-Some.cell c.is_marked-saved.result ∷ []) }) c.args.slot c.args.self.now.unsaved u) (sym c.turn_out.ensures.unsaved)
-    (closes_gone old mid c.args.slot c.in-Some.cell c.is_marked-saved.result c.args.self.now.unsaved cell c.is_marked-saved.ensures.marked c.in-Ok.ensures.gone c.turn_out.ensures.tally))
+    (closes_gone old mid c.args.slot c.in-Some.cell c.is_marked-saved.result c.args.self.now.unsaved cell c.is_marked-saved.ensures.marked c.in-Ok.ensures.gone c.turn_out.ensures.tally c.in-Ok.ensures.asked))
 
 pub returns-in-Ok-clause-valid : goal.returns-in-Ok-clause-valid
 returns-in-Ok-clause-valid g c =
@@ -42,4 +42,4 @@ returns-in-Err-clause-closed g c =
     let named : Unsaved = record { cell = c.in-Some.cell; memory = c.wants_memory.result } in
     subst (λ (x : CacheValue g.row.S.Denot). ClosesSlot old (by g.S.Store.contents x) c.args.slot c.args.self.now.unsaved x.unsaved) (sym c.name_unsaved.ensures)
     (subst (λ (u : List Unsaved). ClosesSlot old mid c.args.slot c.args.self.now.unsaved (u ++ named ∷ [])) (sym c.turn_out.ensures.unsaved)
-    (closes_back old mid c.args.slot c.in-Some.cell c.wants_memory.result c.args.self.now.unsaved c.owner.ensures.valid cell c.in-Err.ensures.marked c.in-Err.ensures.back c.turn_out.ensures.tally (λ f. c.turn_out.ensures.write_fault (c.in-Err.is ∙ ap Err (c.wants_memory.ensures.fault f)))))
+    (closes_back old mid c.args.slot c.in-Some.cell c.wants_memory.result c.args.self.now.unsaved c.owner.ensures.valid cell c.in-Err.ensures.marked c.in-Err.ensures.back c.turn_out.ensures.tally (λ f. c.turn_out.ensures.write_fault (c.in-Err.is ∙ ap Err (c.wants_memory.ensures.fault f))) c.in-Err.refusal c.wants_memory.ensures.memory c.wants_memory.ensures.fault c.in-Err.ensures.asked))

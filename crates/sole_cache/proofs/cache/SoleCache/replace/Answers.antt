@@ -1,4 +1,5 @@
 use Rattle.std.proofs.Common.{◌≢◌, ◌∙◌, ◌<◌, ℕ, List, Option, None, length, sym, ap, subst}
+use Rattle.cell_file.specs.declared.errors.SaveErr.TheVariants as saving
 use Rattle.sole_cache.specs.Slot.{SlotValue, emptied}
 use Rattle.sole_cache.specs.Cached.{slot_at}
 use Rattle.sole_cache.specs.Value.{by}
@@ -6,7 +7,7 @@ use Rattle.sole_cache.specs.Valid.{IsCache}
 use Rattle.sole_cache.specs.Slot.{slot_in}
 use Rattle.std.proofs.lemmas.List.{length-set}
 use Rattle.std.proofs.Common.{slice_index_or}
-use Rattle.sole_cache.proofs.Replaces.{still_absent, now_free, others_taken, replaced, caused_on, others_after, granted_after, refused_after}
+use Rattle.sole_cache.proofs.Replaces.{still_absent, now_free, others_taken, replaced, seated_after, held_back, caused_on, others_after, granted_after, refused_after}
 use Rattle.sole_cache.proofs.cache.SoleCache.replace.Goals as goal
 
 pub refill-requires-clause-cell : goal.refill-requires-clause-cell
@@ -63,7 +64,25 @@ returns-in-Ok-clause-replaced g c =
     let first : c.args.slot < length old.slots = (sound.seated.in_slot c.args.due c.args.slot c.requires.due).0 in
     let e = c.refill.ensures in
     let inside : c.args.cell < length mid.table = subst (λ (t : List (Option ℕ)). c.args.cell < length t) (sym left.0) (subst (λ k. c.args.cell < k) (sym (length-set old.table c.args.due None)) c.requires.cell) in
-    replaced old mid (by g.S.Store.contents c.refill.new.self) c.args.cell c.args.due c.args.slot c.refill.result sound c.requires.absent c.requires.due c.in-Ok.ensures.gone left inside e.handle e.loaded e.seated e.dropped e.stayed e.own
+    replaced old mid (by g.S.Store.contents c.refill.new.self) c.args.cell c.args.due c.args.slot c.refill.result c.requires.absent c.requires.due c.in-Ok.ensures.gone c.in-Ok.ensures.asked e.handle e.loaded e.dropped e.asked
+
+pub returns-in-Ok-clause-seated : goal.returns-in-Ok-clause-seated
+returns-in-Ok-clause-seated g c =
+    let old = by g.S.Store.contents c.args.self.now in
+    let mid = by g.S.Store.contents c.evict.new.self in
+    let sound : IsCache old = c.evict.ensures.sound in
+    let left = c.in-Ok.ensures.left in
+    let first : c.args.slot < length old.slots = (sound.seated.in_slot c.args.due c.args.slot c.requires.due).0 in
+    let inside = subst (λ (t : List (Option ℕ)). c.args.cell < length t) (sym left.0) (subst (λ k. c.args.cell < k) (sym (length-set old.table c.args.due None)) c.requires.cell) in
+    seated_after old mid (by g.S.Store.contents c.refill.new.self) c.args.cell c.args.slot c.refill.result first inside left.1 c.refill.ensures.handle c.refill.ensures.seated
+
+pub returns-in-Err-WriteFault-clause-replaced : goal.returns-in-Err-WriteFault-clause-replaced
+returns-in-Err-WriteFault-clause-replaced g c =
+    held_back (by g.S.Store.contents c.args.self.now) (by g.S.Store.contents c.evict.new.self) c.args.cell c.args.due c.args.slot c.in-Err-WriteFault.field-0 saving.WriteFault c.in-Err-WriteFault.field-0-is c.evict.ensures.sound c.requires.cell c.requires.absent c.requires.due c.in-Err-WriteFault.ensures.marked c.in-Err-WriteFault.ensures.back c.in-Err-WriteFault.ensures.asked
+
+pub returns-in-Err-Memory-clause-replaced : goal.returns-in-Err-Memory-clause-replaced
+returns-in-Err-Memory-clause-replaced g c =
+    held_back (by g.S.Store.contents c.args.self.now) (by g.S.Store.contents c.evict.new.self) c.args.cell c.args.due c.args.slot c.in-Err-Memory.field-0 saving.Memory c.in-Err-Memory.field-0-is c.evict.ensures.sound c.requires.cell c.requires.absent c.requires.due c.in-Err-Memory.ensures.marked c.in-Err-Memory.ensures.back c.in-Err-Memory.ensures.asked
 
 pub returns-in-Ok-clause-caused : goal.returns-in-Ok-clause-caused
 returns-in-Ok-clause-caused g c = caused_on (by g.S.Store.contents c.args.self.now) (by g.S.Store.contents c.evict.new.self) (by g.S.Store.contents c.refill.new.self) c.args.cell c.args.due c.args.slot _ c.refill.result c.in-Ok.ensures.gone c.refill.ensures.caused c.refill.ensures.own

@@ -1,4 +1,4 @@
-use Rattle.std.proofs.Common.{◌≡◌, ◌∙◌, ◌<◌, ◌≤◌, true, false, List, [], ◌∷◌, Some, length, map, take, sym, ap, subst, refl}
+use Rattle.std.proofs.Common.{◌≡◌, ◌∙◌, ◌<◌, ◌≤◌, true, false, List, [], ◌∷◌, Some, Ok, Err, length, map, take, sym, ap, subst, refl}
 use Rattle.std.specs.Vec.{vec_capacity}
 use Rattle.cell_store.specs.Store.{Contents}
 use Rattle.recency.specs.Order.{Order}
@@ -7,6 +7,10 @@ use Rattle.sole_cache.specs.Slot.{SlotValue, with_pins, with_value, loaded_with,
 use Rattle.sole_cache.specs.Cached.{Cached, slot_of, slot_at}
 use Rattle.sole_cache.specs.Value.{CacheValue, by, over}
 use Rattle.sole_cache.specs.Moves.{Moves}
+use Rattle.cell_store.specs.declared.store.Put.{Put}
+use Rattle.store_calls.specs.Calls.{AreCalled}
+use Rattle.cell_file.specs.Asks.{save_answer, save_call}
+use Rattle.sole_cache.specs.Acquires.{lane_at, put_call}
 use Rattle.n5_block.specs.Block.{block}
 use Rattle.cell_grid.specs.Pyramid.{sides_of}
 use Rattle.cell_file.specs.Keys.{edited_key}
@@ -201,3 +205,21 @@ returns-in-Ok-clause-valid g c =
     let blocked = λ (h : after.held (edited_key cached.levels c.args.cell) ≡ Some (block (width_of cached.levels c.args.cell) (sides_of cached.levels c.args.cell) (take (voxels_of cached.levels c.args.cell) (slot_in c.as_slice.result.now c.args.slot).frame))).
     subst (λ l. after.held (edited_key cached.levels c.args.cell) ≡ Some (block (width_of cached.levels c.args.cell) (sides_of cached.levels c.args.cell) (take (voxels_of cached.levels c.args.cell) (slot_in l c.args.slot).frame))) c.as_slice.ensures.value h in
     cache_saved cached c.args.cell c.args.slot shown kept.cache live marked same
+
+pub returns-in-Ok-clause-asked : goal.returns-in-Ok-clause-asked
+returns-in-Ok-clause-asked g c =
+    let inside : CacheValue g.row.S.Denot = record { levels = c.self.inside.geometry; keys = c.self.inside.keys; stores = c.self.inside.stores.items; table = c.self.inside.table.items; slots = c.self.inside.slots.items; order = c.self.inside.recency; tally = c.self.inside.tally; unsaved = c.self.inside.unsaved.items } in
+    let is : inside ≡ c.args.self.now = c.self.view_is in
+    let cached : Cached = by g.S.Store.contents inside in
+    let shown : List Contents = map g.S.Store.contents c.save_cell.new.stores.items in
+    let called = subst (λ l. (answer : Put) × (Ok tt ≡ save_answer answer) × AreCalled (save_call cached.levels (lane_at cached c.args.cell) c.args.cell (take (voxels_of cached.levels c.args.cell) (slot_in l c.args.slot).frame) answer ∷ []) cached.shown shown) c.as_slice.ensures.value c.in-Ok.ensures.called in
+    subst (λ (x : CacheValue g.row.S.Denot). (answer : Put) × (Ok tt ≡ save_answer answer) × AreCalled (put_call (by g.S.Store.contents x) c.args.cell c.args.slot answer ∷ []) (by g.S.Store.contents x).shown shown) is called
+
+pub returns-in-Err-clause-asked : goal.returns-in-Err-clause-asked
+returns-in-Err-clause-asked g c =
+    let inside : CacheValue g.row.S.Denot = record { levels = c.self.inside.geometry; keys = c.self.inside.keys; stores = c.self.inside.stores.items; table = c.self.inside.table.items; slots = c.self.inside.slots.items; order = c.self.inside.recency; tally = c.self.inside.tally; unsaved = c.self.inside.unsaved.items } in
+    let is : inside ≡ c.args.self.now = c.self.view_is in
+    let cached : Cached = by g.S.Store.contents inside in
+    let shown : List Contents = map g.S.Store.contents c.save_cell.new.stores.items in
+    let called = subst (λ l. (answer : Put) × (Err c.in-Err.refusal ≡ save_answer answer) × AreCalled (save_call cached.levels (lane_at cached c.args.cell) c.args.cell (take (voxels_of cached.levels c.args.cell) (slot_in l c.args.slot).frame) answer ∷ []) cached.shown shown) c.as_slice.ensures.value c.in-Err.ensures.called in
+    subst (λ (x : CacheValue g.row.S.Denot). (answer : Put) × (Err c.in-Err.refusal ≡ save_answer answer) × AreCalled (put_call (by g.S.Store.contents x) c.args.cell c.args.slot answer ∷ []) (by g.S.Store.contents x).shown shown) is called

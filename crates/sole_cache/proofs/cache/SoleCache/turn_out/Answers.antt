@@ -1,9 +1,11 @@
-use Rattle.std.proofs.Common.{◌≡◌, ◌∙◌, true, false, [], ◌∷◌, sym, ap, subst}
+use Rattle.std.proofs.Common.{◌≡◌, ◌∙◌, true, false, [], ◌∷◌, refl, sym, ap, subst}
 use Rattle.arr_history.specs.declared.event.Event.TheVariants as happening
 use Rattle.sole_cache.specs.Cached.{Cached, slot_at}
 use Rattle.sole_cache.specs.Value.{by, over, vacated}
 use Rattle.sole_cache.specs.Valid.{IsCache}
 use Rattle.sole_cache.specs.Moves.{Moves}
+use Rattle.std.proofs.lemmas.Result.{err_from_is_err_and}
+use Rattle.sole_cache.specs.Acquires.{put_call}
 use Rattle.sole_cache.proofs.Leaves.{left_unmarked, left_marked}
 use Rattle.sole_cache.proofs.cache.SoleCache.turn_out.Goals as goal
 
@@ -25,3 +27,9 @@ returns-clause-gone g c =
     let gone : IsCache (vacated (over old mid.shown) c.args.cell c.args.slot) = subst IsCache left c.vacate-2.ensures.valid in
     subst (λ (d : Cached). Moves old (happening.Close 0 c.args.cell ∷ happening.Gone 0 c.args.cell (slot_at old c.args.slot).marked ∷ []) d) (sym left)
     (left_marked old c.args.cell c.args.slot mid.shown c.is_marked.ensures.valid c.requires.live c.requires.unpinned mark c.in_ok-save.ensures.saved gone)
+
+pub returns-in_err-save-clause-asked : goal.returns-in_err-save-clause-asked
+returns-in_err-save-clause-asked g c =
+    let p = err_from_is_err_and c.from_residual.result c.from_residual.ensures.1 in
+    let e = c.in_err-save.ensures.asked in
+    rw (p.1, p.2) (put_call (by g.S.Store.contents c.args.self.now) c.args.cell c.args.slot e.0 ∷ [], (e.0, e.1, refl), e.2)
