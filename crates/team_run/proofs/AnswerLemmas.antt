@@ -1,12 +1,12 @@
 -- What commands answer, from what was done.
-use Rattle.std.proofs.Common.{◌≡◌, ◌∙◌, ℕ, List, [], ◌∷◌, ◌++◌, true, false, refl, sym, ap, subst}
+use Rattle.std.proofs.Common.{◌≡◌, ◌∙◌, ℕ, List, [], ◌∷◌, ◌++◌, true, false, refl, sym, subst}
 use Rattle.std.specs.Prelude.{Result, Ok, Err}
 use Rattle.std.proofs.lemmas.List.{append-nil}
 use Rattle.arr_history.specs.declared.event.Event.{Event}
 use Rattle.cell_file.specs.declared.errors.AcquireErr.{AcquireErr}
 use Rattle.cell_file.specs.declared.errors.CellErr.{CellErr}
 use Rattle.cell_file.specs.declared.errors.CellErr.TheVariants as cell_err
-use Rattle.store_calls.specs.Calls.{StoreCall, AreCalled}
+use Rattle.store_calls.specs.Calls.{StoreCall}
 use Rattle.store_calls.proofs.Composed.{called_on}
 use Rattle.fetchers.specs.declared.fetched.Fetched.{Fetched}
 use Rattle.fetchers.specs.declared.served.Served.{Served}

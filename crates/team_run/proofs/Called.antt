@@ -1,5 +1,5 @@
 -- What commands ask of the stores leads from what they showed to what they show.
-use Rattle.std.proofs.Common.{◌≡◌, ◌∙◌, ℕ, List, [], ◌∷◌, ◌++◌, refl, sym, ap, subst}
+use Rattle.std.proofs.Common.{ℕ, List, [], ◌∷◌, sym, ap, subst}
 use Rattle.std.specs.Prelude.{Result, Ok, Err}
 use Rattle.arr_history.specs.declared.event.Event.{Event}
 use Rattle.cell_file.specs.declared.errors.CellErr.{CellErr}

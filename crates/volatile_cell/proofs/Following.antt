@@ -5,7 +5,6 @@ use Rattle.std.specs.Prelude.{Result, IfErr}
 use Rattle.std.specs.declared.result.Result.TheVariants.{Ok, Err}
 use Rattle.cell_file.specs.declared.errors.AcquireErr.{AcquireErr}
 use Rattle.cell_file.specs.declared.errors.AcquireErr.TheVariants as refusal
-use Rattle.cell_store.specs.Store.{Contents}
 use Rattle.store_calls.specs.Calls.{StoreCall, AreCalled}
 use Rattle.store_calls.proofs.Composed.{called_on}
 use Rattle.arr_history.specs.declared.cell_state.Seen.{Seen}

@@ -62,21 +62,21 @@ returns-after-asks-clause-looked g c =
     let stops : loads_by c.args.budget.now.strategy c.args.budget.now.left ≡ false = sym c.loads.ensures ∙ c.if-loads.false in
     let request = request_for c.args.self.now.viewer c.args.self.now.cache.now.levels c.args.cell in
     elim c.if-asks.branch [
-      then-asks w ↦ let asks : asks_by c.args.budget.now.strategy ≡ true = sym c.asks.ensures ∙ w.if-asks.true in
-      let same : w.geometry.result.now ≡ c.args.self.now.cache.now.levels = w.geometry.ensures ∙ done.1.quiet.runs.moves.levels in
-      let queue : AskedFrom c.args.self.now.queue.now (request ∷ []) w.put.new.self = asked_request c.args.self.now.queue.now w.put.new.self c.args.self.now.cache.now.levels w.geometry.result.now c.args.self.now.viewer c.args.cell w.hints-hints.result
-      same w.hints-hints.ensures.hints w.hints-hints.ensures.exists c.args.self.now.viewed c.args.self.now.cells c.args.self.now.priorities c.requires.cell w.put.ensures in
-      rw w.self-is (
-        done.0,
-        request ∷ [],
-        (refl, refl, refl, eyes_look _ _ c.args.cell (Err c.in-Err-look.state) done.0 done.1, queue),
-        record { loads_no_more = stops; missed = done.1.is.1.1; asked = sym (ap (λ b. cond b (request ∷ []) []) asks); same_budget = refl },
-      )
+      | then-asks w ↦ let asks : asks_by c.args.budget.now.strategy ≡ true = sym c.asks.ensures ∙ w.if-asks.true in
+          let same : w.geometry.result.now ≡ c.args.self.now.cache.now.levels = w.geometry.ensures ∙ done.1.quiet.runs.moves.levels in
+          let queue : AskedFrom c.args.self.now.queue.now (request ∷ []) w.put.new.self = asked_request c.args.self.now.queue.now w.put.new.self c.args.self.now.cache.now.levels w.geometry.result.now c.args.self.now.viewer c.args.cell w.hints-hints.result
+          same w.hints-hints.ensures.hints w.hints-hints.ensures.exists c.args.self.now.viewed c.args.self.now.cells c.args.self.now.priorities c.requires.cell w.put.ensures in
+          rw w.self-is (
+            done.0,
+            request ∷ [],
+            (refl, refl, refl, eyes_look _ _ c.args.cell (Err c.in-Err-look.state) done.0 done.1, queue),
+            record { loads_no_more = stops; missed = done.1.is.1.1; asked = sym (ap (λ b. cond b (request ∷ []) []) asks); same_budget = refl },
+          )
       | else-asks w ↦ let asks : asks_by c.args.budget.now.strategy ≡ false = sym c.asks.ensures ∙ w.if-asks.false in
-      rw w.self-is (
-        done.0,
-        [],
-        (refl, refl, refl, eyes_look _ _ c.args.cell (Err c.in-Err-look.state) done.0 done.1, refl),
-        record { loads_no_more = stops; missed = done.1.is.1.1; asked = sym (ap (λ b. cond b (request ∷ []) []) asks); same_budget = refl },
-      )
+          rw w.self-is (
+            done.0,
+            [],
+            (refl, refl, refl, eyes_look _ _ c.args.cell (Err c.in-Err-look.state) done.0 done.1, refl),
+            record { loads_no_more = stops; missed = done.1.is.1.1; asked = sym (ap (λ b. cond b (request ∷ []) []) asks); same_budget = refl },
+          )
     ]
