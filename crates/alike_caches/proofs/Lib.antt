@@ -1,1 +1,6 @@
-
+pub mod Calls
+pub mod Seats
+pub mod Marks
+pub mod After
+pub mod Looking
+pub mod Asking

@@ -1,6 +1,7 @@
 -- From caches that are alike, calls that ask the same and whose calls of the stores fail alike do the same, answer the same, and lead to caches
 -- that are alike.
-use Rattle.std.specs.Prelude.{◌≡◌, ℕ, ◌<◌, List, [], ◌∷◌, ◌++◌, Result}
+use Rattle.std.specs.Prelude.{◌≡◌, ℕ, ◌<◌, false, List, [], ◌∷◌, ◌++◌, Result}
+use Rattle.std.specs.List.{list_any}
 use Rattle.cell_grid.specs.Pyramid.{cells_of}
 use Rattle.cell_file.specs.declared.errors.AcquireErr.{AcquireErr}
 use Rattle.cell_file.specs.declared.errors.CellErr.{CellErr}
@@ -8,6 +9,7 @@ use Rattle.store_calls.specs.Calls.{StoreCall, FailAlike}
 use Rattle.arr_history.specs.declared.cell_state.Seen.{Seen}
 use Rattle.arr_history.specs.declared.event.Event.{Event}
 use Rattle.arr_history.specs.declared.event.Event.TheVariants.{Read}
+use Rattle.arr_history.specs.Tally.{is_writeback}
 use Rattle.sole_cache.specs.Cached.{Cached}
 use Rattle.sole_cache.specs.Handle.{Handle}
 use Rattle.sole_cache.specs.Acquires.{Acquires, Quiet, Looks, GetsVoxel, SetsVoxel}
@@ -27,9 +29,9 @@ LooksAreAlike = (c d c' d' : Cached) (cell : ℕ) (r s : Result Handle Seen) (e 
 abbrev pub ReadsAreAlike : Type 0
 ReadsAreAlike = (c d c' d' : Cached) (cell at x y : ℕ) → AreAlike c d → Quiet c (Read 0 cell at x ∷ []) c' → Quiet d (Read 0 cell at y ∷ []) d' → y ≡ x
 
--- The same events lead on, where no store is asked.
+-- The same events lead on, where no store is asked and none of them is a leaving with a put.
 abbrev pub QuietIsAlike : Type 0
-QuietIsAlike = (c d c' d' : Cached) (events : List Event) → AreAlike c d → Quiet c events c' → Quiet d events d' → AreAlike c' d'
+QuietIsAlike = (c d c' d' : Cached) (events : List Event) → list_any is_writeback events ≡ false → AreAlike c d → Quiet c events c' → Quiet d events d' → AreAlike c' d'
 
 -- Gets and sets of a voxel give the same answer.
 abbrev pub GetsAreAlike : Type 0

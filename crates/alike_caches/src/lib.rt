@@ -19,7 +19,7 @@ pub fn reads_are_alike()
     ensures { ReadsAreAlike }
 {}
 
-/// The same events leave caches that are alike, where no store is asked.
+/// The same events leave caches that are alike, where no store is asked and no cell leaves with a put.
 pub fn quiet_is_alike()
     ensures { QuietIsAlike }
 {}
