@@ -4,37 +4,40 @@ use Rattle.std.specs.Str.{bytes_eq}
 use Rattle.std.proofs.lemmas.Bool.{false_from_ne_true}
 use Rattle.std.proofs.lemmas.Slice.Eq.{bytes_eq-Decides}
 use Rattle.cell_grid.specs.declared.level.Level.{Level}
-use Rattle.cell_grid.specs.Pyramid.{cells_of, sides_of, full_of}
-use Rattle.cell_store.specs.Store.{Contents}
+use Rattle.cell_grid.specs.Pyramid.{cells_of}
+use Rattle.cell_store.specs.Store.{Contents, Gets, KeepsTo}
 use Rattle.cell_store.specs.declared.store.Got.{Got}
 use Rattle.cell_store.specs.declared.store.Got.TheVariants as got
 use Rattle.store_calls.specs.Calls.{StoreCall, Getting, AreCalled, FailAlike}
-use Rattle.n5_block.proofs.ValueLemmas.{none_given}
 use Rattle.cell_file.specs.declared.errors.FetchErr.{FetchErr}
+use Rattle.cell_file.specs.declared.errors.FetchErr.TheVariants.{Malformed}
 use Rattle.cell_file.specs.Asks.{Decides, AreFetch, fetch_calls}
 use Rattle.cell_file.specs.Keys.{KeyNames, edited_key, base_key}
 use Rattle.cell_file.specs.Laws.{AreTheirOwn}
-use Rattle.cell_file.specs.Standing.{limit_of, width_of, block_rule, block_values}
+use Rattle.cell_file.specs.Standing.{limit_of, block_rule, malformed, refusal_of}
 use Rattle.cell_file.proofs.KeyLemmas.{are_their_own}
-use Rattle.cell_file.proofs.StandingLemmas.{malformed_some}
+use Rattle.cell_file.proofs.StandingLemmas.{malformed_some, values_short, refusal_short, by_edited, is_standing}
 use Rattle.arr_history.specs.Legal.{IsMarked}
 use Rattle.sole_cache.specs.Cached.{Cached, slot_of, state_of, state_at}
 use Rattle.sole_cache.specs.Acquires.{lane_at}
 use Rattle.alike_caches.specs.Alike.{AreAlike, IsSettled}
 use Rattle.alike_caches.proofs.Calls.{HoldAlike, same_get, get_first, get_second}
 
--- bytes that give values are not refused
-not_both : (levels : List Level) (cell : ℕ) (edited : Bool) (answer : Got) (found values : List ℕ) (err : FetchErr) → Decides levels cell edited answer found (Ok (tt {0})) values → Decides levels cell edited answer found (Err err) values → ⊥
-not_both levels cell edited got.Found found values err p q =
+-- bytes within the limit that give values are not refused
+not_both : (levels : List Level) (keys : KeyNames) (cell : ℕ) (edited : Bool) (answer : Got) (found values : List ℕ) (err : FetchErr) → KeepsTo (limit_of levels cell) answer found
+    → Decides levels cell edited answer found (Ok (tt {0})) values → Decides levels cell edited answer found (Err err) values → ⊥
+not_both levels keys cell edited got.Found found values err short p q =
     let rule = malformed_some edited (block_rule levels cell found) err q in
-    clash values (sym p ∙ none_given (width_of levels cell) (sides_of levels cell) (full_of levels cell) found rule.0 (sym rule.1.0))
+    let by = by_edited levels keys (λ _. Some found) cell found refl in
+    let refused : refusal_of levels keys (λ _. Some found) cell ≡ Some (Malformed true rule.0) = by.1 ∙ refusal_short levels cell true found short ∙ ap (malformed true) rule.1.0 in
+    clash values (sym p ∙ sym (values_short levels cell found short) ∙ sym by.0 ∙ (is_standing levels keys (λ _. Some found) cell).void (Malformed true rule.0) refused)
   where
     clash : {X : Type 0} (x : X) → Some x ≡ None → ⊥
     clash x e = cc
-not_both levels cell edited got.Missing found values err p q = q
-not_both levels cell edited (got.TooLong len) found values err p q = p
-not_both levels cell edited got.Failed found values err p q = p
-not_both levels cell edited got.NoMemory found values err p q = p
+not_both levels keys cell edited got.Missing found values err short p q = q
+not_both levels keys cell edited (got.TooLong len) found values err short p q = p
+not_both levels keys cell edited got.Failed found values err short p q = p
+not_both levels keys cell edited got.NoMemory found values err short p q = p
 
 same_err : (levels : List Level) (cell : ℕ) (edited : Bool) (answer : Got) (found v w : List ℕ) (a b : FetchErr) → Decides levels cell edited answer found (Err a) v → Decides levels cell edited answer found (Err b) w → b ≡ a
 same_err levels cell edited got.Found found v w a b p q = cc
@@ -44,11 +47,11 @@ same_err levels cell edited got.Failed found v w a b p q = q ∙ sym p
 same_err levels cell edited got.NoMemory found v w a b p q = q ∙ sym p
 
 -- what decides, decides one answer
-decides_same : (levels : List Level) (cell : ℕ) (edited : Bool) (answer : Got) (found v w : List ℕ) (r s : Result (Unit {0}) FetchErr) → Decides levels cell edited answer found r v → Decides levels cell edited answer found s w → s ≡ r
-decides_same levels cell edited answer found v w (Ok x) (Ok y) p q = refl
-decides_same levels cell edited answer found v w (Ok x) (Err b) p q = absurd (not_both levels cell edited answer found v b p q)
-decides_same levels cell edited answer found v w (Err a) (Ok y) p q = absurd (not_both levels cell edited answer found w a q p)
-decides_same levels cell edited answer found v w (Err a) (Err b) p q = ap Err (same_err levels cell edited answer found v w a b p q)
+decides_same : (levels : List Level) (keys : KeyNames) (cell : ℕ) (edited : Bool) (answer : Got) (found v w : List ℕ) (r s : Result (Unit {0}) FetchErr) → KeepsTo (limit_of levels cell) answer found → Decides levels cell edited answer found r v → Decides levels cell edited answer found s w → s ≡ r
+decides_same levels keys cell edited answer found v w (Ok x) (Ok y) short p q = refl
+decides_same levels keys cell edited answer found v w (Ok x) (Err b) short p q = absurd (not_both levels keys cell edited answer found v b short p q)
+decides_same levels keys cell edited answer found v w (Err a) (Ok y) short p q = absurd (not_both levels keys cell edited answer found w a short q p)
+decides_same levels keys cell edited answer found v w (Err a) (Err b) short p q = ap Err (same_err levels cell edited answer found v w a b p q)
 
 -- What two fetches of a cell do, of stores that hold alike.
 pub record FetchesAlike (P : ℕ → List ℕ → Type 0) (r s : Result (Unit {0}) FetchErr) (k l : List StoreCall) (stores others : List Contents) : Type 0 where
@@ -60,29 +63,29 @@ module _ (P : ℕ → List ℕ → Type 0) (levels : List Level) (keys : KeyName
   -- the last get, which decides
   last_get : (key : List ℕ) → P lane key → (stores others stores' others' : List Contents) (a b : Got) (x y : List ℕ) (m n : List StoreCall) → HoldAlike P stores others
       → AreCalled (Getting lane key (limit_of levels cell) a x ∷ []) stores stores' → AreCalled (Getting lane key (limit_of levels cell) b y ∷ []) others others'
-      → FailAlike (Getting lane key (limit_of levels cell) a x ∷ m) (Getting lane key (limit_of levels cell) b y ∷ n) → (b ≡ a) × (y ≡ x) × HoldAlike P stores' others'
+      → FailAlike (Getting lane key (limit_of levels cell) a x ∷ m) (Getting lane key (limit_of levels cell) b y ∷ n) → (b ≡ a) × (y ≡ x) × HoldAlike P stores' others' × KeepsTo (limit_of levels cell) a x
   last_get key p stores others stores' others' a b x y m n h f g fail =
       let same = same_get P stores others f.0 g.0 lane key (limit_of levels cell) a b x y h p f.1 g.1 fail.0 fail.1 in
       let one = get_first P stores others f.0 lane key (limit_of levels cell) a x h f.1 in
       let two = get_second P f.0 others g.0 lane key (limit_of levels cell) b y one g.1 in
-      (same.0, same.1, subst (λ s. HoldAlike P s others') (sym f.2) (subst (λ o. HoldAlike P f.0 o) (sym g.2) two))
+      (same.0, same.1, subst (λ s. HoldAlike P s others') (sym f.2) (subst (λ o. HoldAlike P f.0 o) (sym g.2) two), f.1.3.keeps)
 
   -- the calls of two fetches, by what decides of each
   calls_same : (stores others stores' others' : List Contents) (p q : Bool) (a b : Got) (x y : List ℕ) (m n : List StoreCall) → HoldAlike P stores others
       → (IsTrue p → a ≢ got.Missing) → (IsTrue q → b ≢ got.Missing) → AreCalled (fetch_calls levels keys lane cell p a x) stores stores' → AreCalled (fetch_calls levels keys lane cell q b y) others others'
-      → FailAlike (fetch_calls levels keys lane cell p a x ++ m) (fetch_calls levels keys lane cell q b y ++ n) → (q ≡ p) × (b ≡ a) × (y ≡ x) × HoldAlike P stores' others'
-  calls_same stores others stores' others' true true a b x y m n h u v f g fail = let last = last_get (edited_key levels cell) edited stores others stores' others' a b x y m n h f g fail in (refl, last.0, last.1, last.2)
+      → FailAlike (fetch_calls levels keys lane cell p a x ++ m) (fetch_calls levels keys lane cell q b y ++ n) → (q ≡ p) × (b ≡ a) × (y ≡ x) × HoldAlike P stores' others' × KeepsTo (limit_of levels cell) a x
+  calls_same stores others stores' others' true true a b x y m n h u v f g fail = let last = last_get (edited_key levels cell) edited stores others stores' others' a b x y m n h f g fail in (refl, last.0, last.1, last.2, last.3)
   calls_same stores others stores' others' false false a b x y m n h u v f g fail =
       let one = get_first P stores others f.0 lane (edited_key levels cell) (limit_of levels cell) got.Missing [] h f.1 in
       let two = get_second P f.0 others g.0 lane (edited_key levels cell) (limit_of levels cell) got.Missing [] one g.1 in
       let last = last_get (base_key levels keys cell) base f.0 g.0 stores' others' a b x y m n two f.2 g.2 fail.2 in
-      (refl, last.0, last.1, last.2)
+      (refl, last.0, last.1, last.2, last.3)
   calls_same stores others stores' others' true false a b x y m n h u v f g fail =
       let same = same_get P stores others f.0 g.0 lane (edited_key levels cell) (limit_of levels cell) a got.Missing x [] h edited f.1 g.1 fail.0 fail.1 in
-      absurd (u tt (sym same.0))
+      absurd (u refl (sym same.0))
   calls_same stores others stores' others' false true a b x y m n h u v f g fail =
       let same = same_get P stores others f.0 g.0 lane (edited_key levels cell) (limit_of levels cell) got.Missing b [] y h edited f.1 g.1 fail.0 fail.1 in
-      absurd (v tt same.0)
+      absurd (v refl same.0)
 
   -- Two fetches of the cell ask the same and answer the same.
   pub fetches_alike : (stores others stores' others' : List Contents) (r s : Result (Unit {0}) FetchErr) (k l m n : List StoreCall) → HoldAlike P stores others → AreFetch levels keys lane cell r k → AreFetch levels keys lane cell s l
@@ -93,7 +96,7 @@ module _ (P : ℕ → List ℕ → Type 0) (levels : List Level) (keys : KeyName
       let decided : Decides levels cell p.edited p.answer p.found s q.values =
           subst (λ e. Decides levels cell e p.answer p.found s q.values) same.0 (subst (λ b. Decides levels cell q.edited b p.found s q.values) same.1 (subst (λ y. Decides levels cell q.edited q.answer y s q.values) same.2 q.decides)) in
       record {
-        result = decides_same levels cell p.edited p.answer p.found p.values q.values r s p.decides decided;
+        result = decides_same levels keys cell p.edited p.answer p.found p.values q.values r s same.4 p.decides decided;
         calls = q.calls_are ∙ ap (λ e. fetch_calls levels keys lane cell e q.answer q.found) same.0 ∙ ap (λ b. fetch_calls levels keys lane cell p.edited b q.found) same.1
             ∙ ap (λ y. fetch_calls levels keys lane cell p.edited p.answer y) same.2 ∙ sym p.calls_are;
         hold = same.3;

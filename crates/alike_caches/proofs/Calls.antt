@@ -53,7 +53,7 @@ changed P lane old new h =
     }
 
 -- a number is another or it isn't
-same_or_not : (a b : ℕ) → (a ≡ b) ⊎ (a ≡ b → ⊥)
+pub same_or_not : (a b : ℕ) → (a ≡ b) ⊎ (a ≡ b → ⊥)
 same_or_not a b = choose (a == b) refl
   where
     choose : (r : Bool) → (a == b) ≡ r → (a ≡ b) ⊎ (a ≡ b → ⊥)

@@ -4,3 +4,6 @@ pub mod Marks
 pub mod After
 pub mod Looking
 pub mod Asking
+pub mod Rooms
+pub mod Courses
+pub mod Acquiring
