@@ -7,3 +7,4 @@ pub mod Asking
 pub mod Rooms
 pub mod Courses
 pub mod Acquiring
+pub mod Voxels
