@@ -27,7 +27,7 @@ use Rattle.sole_cache.specs.Acquires.{lane_at, put_call, MakesRoom, HoldsUp, Acq
 use Rattle.alike_caches.specs.Alike.{AreAlike, IsSettled}
 use Rattle.alike_caches.proofs.After.{hold_alike, alike_after, settled_before}
 use Rattle.alike_caches.proofs.Asking.{FetchesAlike, fetches_alike, settled_edited, settled_base}
-use Rattle.alike_caches.proofs.Calls.{HoldAlike, hold_fewer, called_apart, fail_after, AfterPut, same_put}
+use Rattle.alike_caches.proofs.Calls.{HoldAlike, hold_fewer, called_apart, fail_after, AfterPut, same_put, same_put_answer}
 use Rattle.alike_caches.proofs.Courses.{Fetches, Course, Hit, Full, Fetch, HeldUp, course_of, answer_by, last_event, fetch_saves}
 use Rattle.alike_caches.proofs.Looking.{hit_same, not_absent_first, not_absent_second}
 use Rattle.alike_caches.proofs.Marks.{mark_stays}
@@ -41,18 +41,7 @@ pub record AcquiresSame (r s : Result Handle AcquireErr) (e f : List Event) (k l
   pub calls : l ≡ k
   pub hold : HoldAlike P stores others
 
--- puts that failed alike, one of which wasn't done
-same_put_answer : (lane : ℕ) (key bytes : List ℕ) (a b : Put) → is_failed (Putting lane key bytes b) ≡ is_failed (Putting lane key bytes a) → wants_memory (Putting lane key bytes b) ≡ wants_memory (Putting lane key bytes a) → b ≡ a
-same_put_answer lane key bytes put.Done put.Done e f = refl
-same_put_answer lane key bytes put.Done put.Failed e f = absurd (cc)
-same_put_answer lane key bytes put.Done put.NoMemory e f = absurd (cc)
-same_put_answer lane key bytes put.Failed put.Done e f = absurd (cc)
-same_put_answer lane key bytes put.Failed put.Failed e f = refl
-same_put_answer lane key bytes put.Failed put.NoMemory e f = absurd (cc)
-same_put_answer lane key bytes put.NoMemory put.Done e f = absurd (cc)
-same_put_answer lane key bytes put.NoMemory put.Failed e f = absurd (cc)
-same_put_answer lane key bytes put.NoMemory put.NoMemory e f = refl
-
+-- puts of a cell that failed alike
 put_answers : (c : Cached) (cell slot : ℕ) (a b : Put) (m n : List StoreCall) → FailAlike (put_call c cell slot a ∷ m) (put_call c cell slot b ∷ n) → b ≡ a
 put_answers c cell slot a b m n fail = same_put_answer 0 [] [] a b fail.0 fail.1
 

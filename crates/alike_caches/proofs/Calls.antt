@@ -213,3 +213,24 @@ same_put P stores others after then lane key bytes answer h f g = record {
           (λ q. subst (λ i. (store_in others i).held k ≡ (store_in stores i).held k) e (h.held l k lt q)) p)
       | inr ne ↦ ap (λ (s : Contents). s.held k) (second.elsewhere l ne) ∙ h.held l k lt (still_holds answer P lane key l k ne p) ∙ ap (λ (s : Contents). s.held k) (sym (first.elsewhere l ne))
     ]
+
+-- puts that failed alike have the same answer
+pub same_put_answer : (lane : ℕ) (key bytes : List ℕ) (a b : Put) → is_failed (Putting lane key bytes b) ≡ is_failed (Putting lane key bytes a) → wants_memory (Putting lane key bytes b) ≡ wants_memory (Putting lane key bytes a) → b ≡ a
+same_put_answer lane key bytes put.Done put.Done e f = refl
+same_put_answer lane key bytes put.Done put.Failed e f = absurd (cc)
+same_put_answer lane key bytes put.Done put.NoMemory e f = absurd (cc)
+same_put_answer lane key bytes put.Failed put.Done e f = absurd (cc)
+same_put_answer lane key bytes put.Failed put.Failed e f = refl
+same_put_answer lane key bytes put.Failed put.NoMemory e f = absurd (cc)
+same_put_answer lane key bytes put.NoMemory put.Done e f = absurd (cc)
+same_put_answer lane key bytes put.NoMemory put.Failed e f = absurd (cc)
+same_put_answer lane key bytes put.NoMemory put.NoMemory e f = refl
+
+-- calls keep the number of stores
+call_lanes : (x : StoreCall) (old new : List Contents) → IsCalled x old new → length new ≡ length old
+call_lanes (Getting lane key limit answer found) old new h = (changed (λ s t. Gets s t key limit answer found) lane old new h).lanes
+call_lanes (Putting lane key bytes answer) old new h = (changed (λ s t. Puts s t key bytes answer) lane old new h).lanes
+
+pub called_lanes : (k : List StoreCall) (old new : List Contents) → AreCalled k old new → length new ≡ length old
+called_lanes [] old new h = ap length h
+called_lanes (x ∷ k) old new h = called_lanes k h.0 new h.2 ∙ call_lanes x old h.0 h.1

@@ -8,3 +8,4 @@ pub mod Rooms
 pub mod Courses
 pub mod Acquiring
 pub mod Voxels
+pub mod Shutting
