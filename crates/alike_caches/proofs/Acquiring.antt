@@ -1,5 +1,5 @@
 -- Acquires of caches that are alike.
-use Rattle.std.proofs.Common.{◌≡◌, ◌≢◌, ◌∙◌, inl, inr, ◌⊎◌, ℕ, ◌<◌, Bool, true, false, cond, IsTrue, List, [], ◌∷◌, ◌++◌, Option, None, Some, Result, append_assoc, refl, sym, ap, subst}
+use Rattle.std.proofs.Common.{◌≡◌, ◌∙◌, inl, inr, ℕ, ◌<◌, true, false, cond, List, [], ◌∷◌, ◌++◌, Some, Result, append_assoc, refl, sym, ap, subst}
 use Rattle.std.specs.List.{list_any}
 use Rattle.std.specs.Str.{bytes_eq}
 use Rattle.std.specs.declared.result.Result.TheVariants as outcome
@@ -10,10 +10,9 @@ use Rattle.cell_store.specs.declared.store.Put.{Put}
 use Rattle.cell_store.specs.declared.store.Put.TheVariants as put
 use Rattle.store_calls.specs.Calls.{StoreCall, Putting, AreCalled, FailAlike, is_failed, wants_memory}
 use Rattle.cell_file.specs.Asks.{AreFetch}
-use Rattle.cell_file.specs.Keys.{KeyNames, edited_key, base_key}
+use Rattle.cell_file.specs.Keys.{KeyNames, edited_key}
 use Rattle.cell_file.specs.declared.errors.FetchErr.{FetchErr}
 use Rattle.cell_file.specs.declared.errors.AcquireErr.{AcquireErr}
-use Rattle.cell_file.specs.declared.errors.AcquireErr.TheVariants as refusal
 use Rattle.arr_history.specs.declared.cell_state.CellState.TheVariants as cell_state
 use Rattle.arr_history.specs.declared.event.Event.{Event}
 use Rattle.arr_history.specs.declared.event.Event.TheVariants.{Miss, Claim, Drop, Close, Back}
@@ -21,16 +20,14 @@ use Rattle.arr_history.specs.Legal.{IsMarked}
 use Rattle.sole_cache.specs.Cached.{Cached, slot_of, slot_at, state_of, state_at}
 use Rattle.sole_cache.specs.Handle.{Handle}
 use Rattle.sole_cache.specs.Moves.{saves, Moves, Runs}
-use Rattle.sole_cache.specs.Room.{IsFull, IsVictim}
-use Rattle.sole_cache.specs.Valid.{IsCache}
-use Rattle.sole_cache.specs.Acquires.{lane_at, put_call, MakesRoom, HoldsUp, Acquires, refusal_of_put}
+use Rattle.sole_cache.specs.Room.{IsFull}
+use Rattle.sole_cache.specs.Acquires.{lane_at, put_call, HoldsUp, Acquires, refusal_of_put}
 use Rattle.alike_caches.specs.Alike.{AreAlike, IsSettled}
 use Rattle.alike_caches.proofs.After.{hold_alike, alike_after, settled_before}
 use Rattle.alike_caches.proofs.Asking.{FetchesAlike, fetches_alike, settled_edited, settled_base}
 use Rattle.alike_caches.proofs.Calls.{HoldAlike, hold_fewer, called_apart, fail_after, AfterPut, same_put, same_put_answer}
 use Rattle.alike_caches.proofs.Courses.{Fetches, Course, Hit, Full, Fetch, HeldUp, course_of, answer_by, last_event, fetch_saves}
 use Rattle.alike_caches.proofs.Looking.{hit_same, not_absent_first, not_absent_second}
-use Rattle.alike_caches.proofs.Marks.{mark_stays}
 use Rattle.alike_caches.proofs.Rooms.{IsSettledBut, settled_but, RoomsAlike, rooms_alike, full_too, full_no_room, full_no_victim, victim_live, put_same}
 use Rattle.alike_caches.proofs.Seats.{some_same, marked_same, victim_same, not_free_first, not_free_second}
 
@@ -67,15 +64,15 @@ module _ (c d c' d' : Cached) (cell : ℕ) (a : AreAlike c d) (inside : cell < c
     calls = also ∙ sym none;
     hold = subst (λ shown. HoldAlike (IsSettled c') shown d'.shown) (sym (subst (λ x. AreCalled x c.shown c'.shown) none p))
         (subst (λ shown. HoldAlike (IsSettled c') c.shown shown) (sym (subst (λ x. AreCalled x d.shown d'.shown) also q))
-          (hold_fewer (IsSettled c) (IsSettled c') c.shown d.shown (λ lane key settled. settled_before c c' e lane key moves unsaved settled) (hold_alike c d a)));
+        (hold_fewer (IsSettled c) (IsSettled c') c.shown d.shown (λ lane key settled. settled_before c c' e lane key moves unsaved settled) (hold_alike c d a)));
   }
 
   -- the fetch of the other cache, in the words of this one
   fetch_in : (r : Result (Unit {0}) FetchErr) (k : List StoreCall) → AreFetch d.levels d.keys (lane_at d cell) cell r k → AreFetch c.levels c.keys (lane_at c cell) cell r k
   fetch_in r k p =
       subst (λ (x : List Level). AreFetch x c.keys (lane_at c cell) cell r k) a.levels
-        (subst (λ (x : KeyNames). AreFetch d.levels x (lane_at c cell) cell r k) a.keys
-          (subst (λ x. AreFetch d.levels d.keys (lane_of cell x) cell r k) a.lanes p))
+      (subst (λ (x : KeyNames). AreFetch d.levels x (lane_at c cell) cell r k) a.keys
+      (subst (λ x. AreFetch d.levels d.keys (lane_of cell x) cell r k) a.lanes p))
 
   both_fetch : (r s : Result Handle AcquireErr) (e f : List Event) (k l m n : List StoreCall) → Fetches c cell r e k → Fetches d cell s f l → Moves c e c' → AreCalled k c.shown c'.shown → AreCalled l d.shown d'.shown → FailAlike (k ++ m) (l ++ n)
       → AcquiresSame r s e f k l (IsSettled c') c'.shown d'.shown
@@ -103,8 +100,8 @@ module _ (c d c' d' : Cached) (cell : ℕ) (a : AreAlike c d) (inside : cell < c
       split : FailAlike (p.puts ++ (p.gets ++ m)) (p.puts ++ (q.gets ++ n))
       split = subst (λ x. FailAlike x (p.puts ++ (q.gets ++ n))) (append_assoc p.puts p.gets m)
           (subst (λ y. FailAlike ((p.puts ++ p.gets) ++ m) y) (append_assoc p.puts q.gets n)
-            (subst (λ x. FailAlike ((p.puts ++ p.gets) ++ m) ((x ++ q.gets) ++ n)) room.puts_same
-              (subst (λ x. FailAlike (x ++ m) ((q.puts ++ q.gets) ++ n)) p.calls_are (subst (λ y. FailAlike (k ++ m) (y ++ n)) q.calls_are fail))))
+          (subst (λ x. FailAlike ((p.puts ++ p.gets) ++ m) ((x ++ q.gets) ++ n)) room.puts_same
+          (subst (λ x. FailAlike (x ++ m) ((q.puts ++ q.gets) ++ n)) p.calls_are (subst (λ y. FailAlike (k ++ m) (y ++ n)) q.calls_are fail))))
 
       got : FetchesAlike (IsSettledBut c p.turn) p.outcome q.outcome p.gets q.gets c'.shown d'.shown
       got = fetches_alike (IsSettledBut c p.turn) c.levels c.keys (lane_at c cell) cell
@@ -151,7 +148,7 @@ module _ (c d c' d' : Cached) (cell : ℕ) (a : AreAlike c d) (inside : cell < c
       put_both : HoldAlike (AfterPut p.answer (IsSettled c) (lane_at c p.due) (edited_key c.levels p.due)) c'.shown d'.shown
       put_both = subst (λ s. HoldAlike (AfterPut p.answer (IsSettled c) (lane_at c p.due) (edited_key c.levels p.due)) s d'.shown) (sym first.2)
           (subst (λ o. HoldAlike (AfterPut p.answer (IsSettled c) (lane_at c p.due) (edited_key c.levels p.due)) first.0 o) (sym second.2)
-            (same_put (IsSettled c) c.shown d.shown first.0 second.0 _ _ _ p.answer (hold_alike c d a) first.1 second.1))
+          (same_put (IsSettled c) c.shown d.shown first.0 second.0 _ _ _ p.answer (hold_alike c d a) first.1 second.1))
 
       unsaved : (i : ℕ) → list_any (saves i) e ≡ false
       unsaved i = rw p.events_are refl
@@ -175,7 +172,7 @@ module _ (c d c' d' : Cached) (cell : ℕ) (a : AreAlike c d) (inside : cell < c
         let marked : (slot_at c p.slot).marked ≡ true = sym (marked_same c d a out.0 p.slot live) ∙ ap (λ i. (slot_at d i).marked) (sym same.0) ∙ q.marked in
         let puts : p.puts ≡ put_call c out.0 p.slot put.Done ∷ [] = out.3 ∙ ap (λ b. cond b (put_call c out.0 p.slot put.Done ∷ []) []) marked in
         let heads : FailAlike (put_call c out.0 p.slot put.Done ∷ (p.gets ++ m)) (put_call d q.due q.slot q.answer ∷ n) =
-            subst (λ x. FailAlike ((x ++ p.gets) ++ m) (put_call d q.due q.slot q.answer ∷ n)) puts (subst (λ x. FailAlike (x ++ m) (put_call d q.due q.slot q.answer ∷ n)) p.calls_are (subst (λ y. FailAlike (k ++ m) (y ++ n)) q.calls_are fail)) in
+        subst (λ x. FailAlike ((x ++ p.gets) ++ m) (put_call d q.due q.slot q.answer ∷ n)) puts (subst (λ x. FailAlike (x ++ m) (put_call d q.due q.slot q.answer ∷ n)) p.calls_are (subst (λ y. FailAlike (k ++ m) (y ++ n)) q.calls_are fail)) in
         done_refuses q.answer w q.err_is (same_put_answer 0 [] [] put.Done q.answer (failed q.answer heads.0) (memory q.answer heads.1))
   ]
     where
@@ -198,7 +195,7 @@ module _ (c d c' d' : Cached) (cell : ℕ) (a : AreAlike c d) (inside : cell < c
         let marked : (slot_at d q.slot).marked ≡ true = ap (λ i. (slot_at d i).marked) same.0 ∙ marked_same c d a p.due p.slot live ∙ p.marked in
         let puts : q.puts ≡ put_call d out.0 q.slot put.Done ∷ [] = out.3 ∙ ap (λ b. cond b (put_call d out.0 q.slot put.Done ∷ []) []) marked in
         let heads : FailAlike (put_call c p.due p.slot p.answer ∷ m) (put_call d out.0 q.slot put.Done ∷ (q.gets ++ n)) =
-            subst (λ y. FailAlike (put_call c p.due p.slot p.answer ∷ m) ((y ++ q.gets) ++ n)) puts (subst (λ y. FailAlike (put_call c p.due p.slot p.answer ∷ m) (y ++ n)) q.calls_are (subst (λ x. FailAlike (x ++ m) (l ++ n)) p.calls_are fail)) in
+        subst (λ y. FailAlike (put_call c p.due p.slot p.answer ∷ m) ((y ++ q.gets) ++ n)) puts (subst (λ y. FailAlike (put_call c p.due p.slot p.answer ∷ m) (y ++ n)) q.calls_are (subst (λ x. FailAlike (x ++ m) (l ++ n)) p.calls_are fail)) in
         done_refuses p.answer v p.err_is (same_put_answer 0 [] [] put.Done p.answer (failed p.answer heads.0) (memory p.answer heads.1))
   ]
     where
@@ -244,8 +241,7 @@ pub acquires_alike : (c d c' d' : Cached) (cell : ℕ) (r s : Result Handle Acqu
     → AreAlike c d → cell < cells_of c.levels → Acquires c cell r e k c' → Acquires d cell s f l d' → FailAlike (k ++ m) (l ++ n)
     → (s ≡ r) × (f ≡ e) × AreAlike c' d' × FailAlike m n
 acquires_alike c d c' d' cell r s e f k l m n a inside p q fail =
-    let same = courses_same c d c' d' cell a inside r s e f k l m n (course_of c cell r e k p.is) (course_of d cell s f l q.is) p.runs.moves p.called q.called fail in
-    (
+    let same = courses_same c d c' d' cell a inside r s e f k l m n (course_of c cell r e k p.is) (course_of d cell s f l q.is) p.runs.moves p.called q.called fail in (
       same.results,
       same.events,
       alike_after c d c' d' e a p.runs (subst (λ x. Runs d x d') same.events q.runs) p.valid q.valid same.hold,

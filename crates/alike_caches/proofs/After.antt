@@ -1,26 +1,24 @@
 -- Caches that are alike, after the same events.
-use Rattle.std.proofs.Common.{◌≡◌, ◌∙◌, ℕ, ◌<◌, ◌==◌, ◌&&◌, ◌||◌, Bool, true, false, IsTrue, List, [], ◌∷◌, length, Option, None, Some, refl, sym, ap, subst, arith}
+use Rattle.std.proofs.Common.{◌≡◌, ◌∙◌, ℕ, ◌<◌, ◌==◌, ◌&&◌, ◌||◌, Bool, true, false, List, [], ◌∷◌, refl, sym, ap, subst}
 use Rattle.std.specs.List.{list_any}
 use Rattle.std.specs.Str.{bytes_eq}
 use Rattle.cell_grid.specs.declared.level.Level.{Level}
 use Rattle.cell_grid.specs.Pyramid.{cells_of, voxels_of, lane_of}
-use Rattle.cell_file.specs.Keys.{KeyNames, AreKeys, edited_key}
+use Rattle.cell_file.specs.Keys.{AreKeys, edited_key}
 use Rattle.recency.specs.Order.{Order}
 use Rattle.arr_history.specs.declared.event.Event.{Event}
 use Rattle.arr_history.specs.declared.event.Event.TheVariants as event
-use Rattle.arr_history.specs.declared.tally.Tally.{Tally}
 use Rattle.arr_history.specs.State.{State}
 use Rattle.arr_history.specs.Shape.{Shape}
 use Rattle.arr_history.specs.Next.{next}
-use Rattle.arr_history.specs.Legal.{IsMarked}
 use Rattle.arr_history.specs.Tally.{raised, is_writeback}
-use Rattle.arr_history.specs.History.{after, IsSame}
+use Rattle.arr_history.specs.History.{IsSame}
 use Rattle.arr_history.proofs.Leads.{same_next, same_after, same_sym, same_trans, same_in}
 use Rattle.sole_cache.specs.Cached.{Cached, state_of, shape_of}
 use Rattle.sole_cache.specs.Valid.{IsCache}
 use Rattle.sole_cache.specs.Turns.{order_next, order_after, touched_by, left_by}
 use Rattle.sole_cache.specs.Moves.{saves, Moves, Runs}
-use Rattle.sole_cache.specs.Acquires.{lane_at, Quiet}
+use Rattle.sole_cache.specs.Acquires.{Quiet}
 use Rattle.alike_caches.specs.Alike.{AreAlike, IsSettled}
 use Rattle.alike_caches.proofs.Calls.{HoldAlike, hold_fewer}
 use Rattle.alike_caches.proofs.Marks.{mark_stays}
@@ -66,7 +64,7 @@ module _ (c d c' d' : Cached) (events : List Event) (a : AreAlike c d) (first : 
     slots = sym second.moves.shape.slots ∙ a.slots ∙ first.moves.shape.slots;
     same = same_in (shape_of c) (shape_of c') (state_of c') (state_of d') first.moves.shape
         (same_trans (shape_of c) _ _ _ (same_sym (shape_of c) _ _ first.moves.led.reached)
-          (same_trans (shape_of c) _ _ _ (same_after (shape_of c) _ _ events a.same) (same_in_first _ _ second.moves.led.reached)));
+        (same_trans (shape_of c) _ _ _ (same_after (shape_of c) _ _ events a.same) (same_in_first _ _ second.moves.led.reached)));
     order = order_after_both;
     tally = second.tally ∙ ap (λ t. raised t events []) a.tally ∙ sym first.tally;
     told = h.told;
@@ -79,7 +77,7 @@ module _ (c d c' d' : Cached) (events : List Event) (a : AreAlike c d) (first : 
 pub settled_before : (c c' : Cached) (events : List Event) (lane : ℕ) (key : List ℕ) → Moves c events c' → ((n : ℕ) → list_any (saves n) events ≡ false) → IsSettled c' lane key → IsSettled c lane key
 settled_before c c' events lane key moves none settled n inside there marked =
     subst (λ (l : List Level). bytes_eq (edited_key l n) key ≡ false) moves.levels
-      (settled n (subst (λ (l : List Level). n < cells_of l) (sym moves.levels) inside) (ap (lane_of n) moves.stores.lanes ∙ there) (mark_stays c c' events n moves (none n) marked))
+    (settled n (subst (λ (l : List Level). n < cells_of l) (sym moves.levels) inside) (ap (lane_of n) moves.stores.lanes ∙ there) (mark_stays c c' events n moves (none n) marked))
 
 -- no cell leaves with a put by events of which none is a leaving with a put
 none_saved : (n : ℕ) (events : List Event) → list_any is_writeback events ≡ false → list_any (saves n) events ≡ false
@@ -94,4 +92,4 @@ none_saved n (_ ∷ events) none = none_saved n events none
 pub quiet_alike : (c d c' d' : Cached) (events : List Event) → list_any is_writeback events ≡ false → AreAlike c d → Quiet c events c' → Quiet d events d' → AreAlike c' d'
 quiet_alike c d c' d' events none a p q = alike_after c d c' d' events a p.runs q.runs p.valid q.valid
     (subst (λ shown. HoldAlike (IsSettled c') shown d'.shown) (sym p.shown) (subst (λ shown. HoldAlike (IsSettled c') c.shown shown) (sym q.shown)
-      (hold_fewer (IsSettled c) (IsSettled c') c.shown d.shown (λ lane key settled. settled_before c c' events lane key p.runs.moves (λ n. none_saved n events none) settled) (hold_alike c d a))))
+    (hold_fewer (IsSettled c) (IsSettled c') c.shown d.shown (λ lane key settled. settled_before c c' events lane key p.runs.moves (λ n. none_saved n events none) settled) (hold_alike c d a))))

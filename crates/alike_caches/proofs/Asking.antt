@@ -1,11 +1,11 @@
 -- Fetches of a cell from stores that hold alike under its keys.
-use Rattle.std.proofs.Common.{◌≡◌, ◌≢◌, ◌∙◌, ℕ, ◌<◌, Bool, true, false, IsTrue, List, [], ◌∷◌, ◌++◌, Option, None, Some, Result, Ok, Err, refl, sym, ap, subst}
+use Rattle.std.proofs.Common.{◌≡◌, ◌≢◌, ◌∙◌, ℕ, ◌<◌, Bool, true, false, IsTrue, List, [], ◌∷◌, ◌++◌, None, Some, Result, Ok, Err, refl, sym, ap, subst}
 use Rattle.std.specs.Str.{bytes_eq}
 use Rattle.std.proofs.lemmas.Bool.{false_from_ne_true}
 use Rattle.std.proofs.lemmas.Slice.Eq.{bytes_eq-Decides}
 use Rattle.cell_grid.specs.declared.level.Level.{Level}
 use Rattle.cell_grid.specs.Pyramid.{cells_of}
-use Rattle.cell_store.specs.Store.{Contents, Gets, KeepsTo}
+use Rattle.cell_store.specs.Store.{Contents, KeepsTo}
 use Rattle.cell_store.specs.declared.store.Got.{Got}
 use Rattle.cell_store.specs.declared.store.Got.TheVariants as got
 use Rattle.store_calls.specs.Calls.{StoreCall, Getting, AreCalled, FailAlike}
@@ -19,7 +19,6 @@ use Rattle.cell_file.proofs.KeyLemmas.{are_their_own}
 use Rattle.cell_file.proofs.StandingLemmas.{malformed_some, values_short, refusal_short, by_edited, is_standing}
 use Rattle.arr_history.specs.Legal.{IsMarked}
 use Rattle.sole_cache.specs.Cached.{Cached, slot_of, state_of, state_at}
-use Rattle.sole_cache.specs.Acquires.{lane_at}
 use Rattle.alike_caches.specs.Alike.{AreAlike, IsSettled}
 use Rattle.alike_caches.proofs.Calls.{HoldAlike, same_get, get_first, get_second}
 
@@ -92,9 +91,9 @@ module _ (P : ℕ → List ℕ → Type 0) (levels : List Level) (keys : KeyName
       → AreCalled k stores stores' → AreCalled l others others' → FailAlike (k ++ m) (l ++ n) → FetchesAlike P r s k l stores' others'
   fetches_alike stores others stores' others' r s k l m n h p q f g fail =
       let same = calls_same stores others stores' others' p.edited q.edited p.answer q.answer p.found q.found m n h p.held q.held (subst (λ c. AreCalled c stores stores') p.calls_are f) (subst (λ c. AreCalled c others others') q.calls_are g)
-          (subst (λ c. FailAlike (c ++ m) (fetch_calls levels keys lane cell q.edited q.answer q.found ++ n)) p.calls_are (subst (λ c. FailAlike (k ++ m) (c ++ n)) q.calls_are fail)) in
+      (subst (λ c. FailAlike (c ++ m) (fetch_calls levels keys lane cell q.edited q.answer q.found ++ n)) p.calls_are (subst (λ c. FailAlike (k ++ m) (c ++ n)) q.calls_are fail)) in
       let decided : Decides levels cell p.edited p.answer p.found s q.values =
-          subst (λ e. Decides levels cell e p.answer p.found s q.values) same.0 (subst (λ b. Decides levels cell q.edited b p.found s q.values) same.1 (subst (λ y. Decides levels cell q.edited q.answer y s q.values) same.2 q.decides)) in
+      subst (λ e. Decides levels cell e p.answer p.found s q.values) same.0 (subst (λ b. Decides levels cell q.edited b p.found s q.values) same.1 (subst (λ y. Decides levels cell q.edited q.answer y s q.values) same.2 q.decides)) in
       record {
         result = decides_same levels keys cell p.edited p.answer p.found p.values q.values r s same.4 p.decides decided;
         calls = q.calls_are ∙ ap (λ e. fetch_calls levels keys lane cell e q.answer q.found) same.0 ∙ ap (λ b. fetch_calls levels keys lane cell p.edited b q.found) same.1
@@ -117,9 +116,9 @@ module _ (c d : Cached) (a : AreAlike c d) (cell lane : ℕ) (inside : cell < ce
   pub settled_edited : IsSettled c lane (edited_key c.levels cell)
   settled_edited n below there marked = differ _ _ (λ e. not_marked n marked
       (own.edited n cell (subst (λ l. n < cells_of l) (sym a.first.fitted.keyed) below) (subst (λ l. cell < cells_of l) (sym a.first.fitted.keyed) inside)
-        (subst (λ l. edited_key l n ≡ edited_key l cell) (sym a.first.fitted.keyed) e)))
+      (subst (λ l. edited_key l n ≡ edited_key l cell) (sym a.first.fitted.keyed) e)))
 
   pub settled_base : IsSettled c lane (base_key c.levels c.keys cell)
   settled_base n below there marked = differ _ _ (λ e. not_marked n marked
       (own.base n cell (subst (λ l. n < cells_of l) (sym a.first.fitted.keyed) below) (subst (λ l. cell < cells_of l) (sym a.first.fitted.keyed) inside)
-        (subst (λ l. edited_key l n ≡ base_key l c.keys cell) (sym a.first.fitted.keyed) e)))
+      (subst (λ l. edited_key l n ≡ base_key l c.keys cell) (sym a.first.fitted.keyed) e)))

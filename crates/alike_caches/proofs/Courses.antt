@@ -1,21 +1,20 @@
 -- The courses that an acquire may take.
-use Rattle.std.proofs.Common.{◌≡◌, ◌∙◌, inl, inr, ◌⊎◌, ℕ, ◌||◌, Bool, true, false, List, [], ◌∷◌, ◌++◌, Option, None, Some, Result, refl, sym, ap}
+use Rattle.std.proofs.Common.{◌≡◌, inl, inr, ◌⊎◌, ℕ, ◌||◌, Bool, true, false, List, [], ◌∷◌, ◌++◌, None, Result, refl, ap}
 use Rattle.std.specs.List.{list_any}
 use Rattle.std.specs.declared.result.Result.TheVariants as outcome
-use Rattle.cell_store.specs.declared.store.Put.{Put}
 use Rattle.store_calls.specs.Calls.{StoreCall}
 use Rattle.cell_file.specs.Asks.{AreFetch}
 use Rattle.cell_file.specs.declared.errors.FetchErr.{FetchErr}
 use Rattle.cell_file.specs.declared.errors.AcquireErr.{AcquireErr}
 use Rattle.cell_file.specs.declared.errors.AcquireErr.TheVariants as refusal
 use Rattle.arr_history.specs.declared.event.Event.{Event}
-use Rattle.arr_history.specs.declared.event.Event.TheVariants.{Miss, Claim, Drop, Live, Close, Back}
-use Rattle.sole_cache.specs.Cached.{Cached, slot_of, slot_at}
+use Rattle.arr_history.specs.declared.event.Event.TheVariants.{Miss, Claim, Drop, Live}
+use Rattle.sole_cache.specs.Cached.{Cached, slot_of}
 use Rattle.sole_cache.specs.Handle.{Handle}
 use Rattle.sole_cache.specs.Moves.{saves}
 use Rattle.sole_cache.specs.Pieces.{IsHit}
-use Rattle.sole_cache.specs.Room.{IsFull, IsVictim}
-use Rattle.sole_cache.specs.Acquires.{lane_at, put_call, MakesRoom, Loads, Drops, HoldsUp, IsAcquire, refusal_by, refusal_of_put}
+use Rattle.sole_cache.specs.Room.{IsFull}
+use Rattle.sole_cache.specs.Acquires.{lane_at, MakesRoom, Loads, Drops, HoldsUp, IsAcquire, refusal_by}
 
 -- what an acquire answers by its fetch, and its last event
 abbrev pub answer_by : ℕ → ℕ → Result (Unit {0}) FetchErr → Result Handle AcquireErr

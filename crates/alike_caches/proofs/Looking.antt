@@ -1,9 +1,9 @@
 -- Looks and reads of caches that are alike.
-use Rattle.std.proofs.Common.{◌≡◌, ◌∙◌, ℕ, ◌<◌, Bool, true, false, IsTrue, List, [], ◌∷◌, Option, None, Some, Result, refl, sym, ap, subst}
+use Rattle.std.proofs.Common.{◌≡◌, ◌∙◌, ℕ, false, List, [], ◌∷◌, None, Some, Result, refl, sym, ap, subst}
 use Rattle.std.specs.declared.result.Result.TheVariants as outcome
 use Rattle.arr_history.specs.declared.cell_state.Seen.{Seen}
 use Rattle.arr_history.specs.declared.event.Event.{Event}
-use Rattle.arr_history.specs.declared.event.Event.TheVariants.{Pin, Miss, Read}
+use Rattle.arr_history.specs.declared.event.Event.TheVariants.{Read}
 use Rattle.arr_history.specs.Legal.{IsLegal}
 use Rattle.sole_cache.specs.Cached.{Cached, slot_of, state_of, shape_of}
 use Rattle.sole_cache.specs.Handle.{Handle}

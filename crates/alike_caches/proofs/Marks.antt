@@ -1,12 +1,12 @@
 -- Marks stay while no cell leaves with a put.
-use Rattle.std.proofs.Common.{◌≡◌, ◌∙◌, ℕ, ◌<◌, ◌==◌, ◌&&◌, ◌||◌, Bool, true, false, cond, List, [], ◌∷◌, Option, None, Some, refl, sym, ap, subst, arith}
+use Rattle.std.proofs.Common.{◌≡◌, ℕ, ◌==◌, ◌&&◌, ◌||◌, Bool, true, false, List, [], ◌∷◌, Option, None, Some, refl, sym, subst, arith}
 use Rattle.std.specs.List.{list_any}
 use Rattle.std.proofs.lemmas.Bool.Decides.{nat_tests}
 use Rattle.arr_history.specs.declared.event.Event.{Event}
 use Rattle.arr_history.specs.declared.event.Event.TheVariants as event
 use Rattle.arr_history.specs.declared.cell_state.CellState.{CellState}
 use Rattle.arr_history.specs.declared.cell_state.CellState.TheVariants as cell
-use Rattle.arr_history.specs.State.{State, with_at}
+use Rattle.arr_history.specs.State.{State}
 use Rattle.arr_history.specs.Shape.{Shape}
 use Rattle.arr_history.specs.Next.{marked, leaving, returned, next}
 use Rattle.arr_history.specs.Legal.{IsMarked, IsLeaving, IsLegal}

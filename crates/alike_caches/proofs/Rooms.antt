@@ -1,5 +1,5 @@
 -- How room is made in caches that are alike.
-use Rattle.std.proofs.Common.{◌≡◌, ◌≢◌, ◌∙◌, inl, inr, ◌⊎◌, ℕ, ◌<◌, ◌≤◌, ◌==◌, ◌&&◌, ◌||◌, nat_lt, Bool, true, false, not, cond, IsTrue, List, [], ◌∷◌, ◌++◌, length, take, Option, None, Some, slice_index_or, refl, sym, ap, subst, arith}
+use Rattle.std.proofs.Common.{◌≡◌, ◌∙◌, inl, inr, ℕ, ◌<◌, ◌==◌, ◌&&◌, ◌||◌, nat_lt, Bool, true, false, not, cond, List, [], ◌∷◌, take, Some, slice_index_or, refl, sym, ap, subst, arith}
 use Rattle.std.specs.List.{find, list_any}
 use Rattle.std.specs.Str.{bytes_eq}
 use Rattle.std.proofs.lemmas.Bool.Decides.{nat_tests}
@@ -17,7 +17,7 @@ use Rattle.arr_history.specs.declared.event.Event.TheVariants.{Close, Gone}
 use Rattle.arr_history.specs.Legal.{IsMarked}
 use Rattle.sole_cache.specs.Slot.{SlotValue, no_slot}
 use Rattle.sole_cache.specs.Cached.{Cached, slot_of, slot_at, state_of}
-use Rattle.sole_cache.specs.Room.{pinned, IsLowestFree, IsFull, IsVictim}
+use Rattle.sole_cache.specs.Room.{pinned, IsFull, IsVictim}
 use Rattle.sole_cache.specs.Valid.{IsCache}
 use Rattle.sole_cache.specs.Moves.{saves, Moves}
 use Rattle.sole_cache.specs.Acquires.{lane_at, put_call, MakesRoom}
@@ -44,7 +44,7 @@ pub full_no_victim : (c : Cached) (slot v : ℕ) → IsCache c → IsFull c → 
 full_no_victim c slot v valid full h =
     let inside = (valid.seated.in_slot v slot (victim_live c slot v valid h)).0 in
     clash (slot_at c slot).pins (slice_index_or (pinned c.slots) slot false) (get_or-map (λ (s : SlotValue). nat_lt 0 s.pins) c.slots slot no_slot false inside) (full slot inside)
-      (found_passes (λ k. not (slice_index_or (pinned c.slots) k false)) _ slot h.1)
+    (found_passes (λ k. not (slice_index_or (pinned c.slots) k false)) _ slot h.1)
   where
     clash : (pins : ℕ) (b : Bool) → b ≡ nat_lt 0 pins → 0 < pins → not b ≡ true → ⊥
     clash pins b e lt t = grind (arith, nat_tests)
@@ -64,7 +64,7 @@ IsSettledBut c events lane key = (n : ℕ) → n < cells_of c.levels → lane_at
 pub settled_but : (c c' : Cached) (events : List Event) (lane : ℕ) (key : List ℕ) → Moves c events c' → IsSettled c' lane key → IsSettledBut c events lane key
 settled_but c c' events lane key moves settled n inside there marked none =
     subst (λ (l : List Level). bytes_eq (edited_key l n) key ≡ false) moves.levels
-      (settled n (subst (λ (l : List Level). n < cells_of l) (sym moves.levels) inside) (ap (lane_of n) moves.stores.lanes ∙ there) (mark_stays c c' events n moves none marked))
+    (settled n (subst (λ (l : List Level). n < cells_of l) (sym moves.levels) inside) (ap (lane_of n) moves.stores.lanes ∙ there) (mark_stays c c' events n moves none marked))
 
 -- the rooms of two caches
 pub record RoomsAlike (c : Cached) (slot slot' : ℕ) (turn turn' : List Event) (puts puts' : List StoreCall) : Type 0 where
@@ -102,11 +102,11 @@ module _ (c d : Cached) (a : AreAlike c d) where
       → HoldAlike (IsSettledBut c (Close 0 v ∷ Gone 0 v marked ∷ [])) stores' others'
   turned_out slot v true stores others stores' others' h f g =
       hold_fewer (AfterPut put.Done (IsSettled c) (lane_at c v) (edited_key c.levels v)) (IsSettledBut c (Close 0 v ∷ Gone 0 v true ∷ [])) stores' others' (after_put v)
-        (subst (λ s. HoldAlike (AfterPut put.Done (IsSettled c) (lane_at c v) (edited_key c.levels v)) s others') (sym f.2)
-          (subst (λ o. HoldAlike (AfterPut put.Done (IsSettled c) (lane_at c v) (edited_key c.levels v)) f.0 o) (sym g.2) (same_put (IsSettled c) stores others f.0 g.0 _ _ _ put.Done h f.1 g.1)))
+      (subst (λ s. HoldAlike (AfterPut put.Done (IsSettled c) (lane_at c v) (edited_key c.levels v)) s others') (sym f.2)
+      (subst (λ o. HoldAlike (AfterPut put.Done (IsSettled c) (lane_at c v) (edited_key c.levels v)) f.0 o) (sym g.2) (same_put (IsSettled c) stores others f.0 g.0 _ _ _ put.Done h f.1 g.1)))
   turned_out slot v false stores others stores' others' h f g =
       hold_fewer (IsSettled c) (IsSettledBut c (Close 0 v ∷ Gone 0 v false ∷ [])) stores' others' (λ l k but n inside there marked. but n inside there marked refl)
-        (subst (λ s. HoldAlike (IsSettled c) s others') (sym f) (subst (λ o. HoldAlike (IsSettled c) stores o) (sym g) h))
+      (subst (λ s. HoldAlike (IsSettled c) s others') (sym f) (subst (λ o. HoldAlike (IsSettled c) stores o) (sym g) h))
 
   -- Room is made in the same way.
   pub rooms_alike : (slot slot' : ℕ) (turn turn' : List Event) (puts puts' : List StoreCall) → MakesRoom c slot turn puts → MakesRoom d slot' turn' puts' → RoomsAlike c slot slot' turn turn' puts puts'
@@ -118,7 +118,7 @@ module _ (c d : Cached) (a : AreAlike c d) where
         let stays = subst (λ x. AreCalled x stores stores') p.2 f in
         let also = subst (λ x. AreCalled x others others') q.2 g in
         hold_fewer (IsSettled c) (IsSettledBut c turn) stores' others' (λ l k but n inside there marked. but n inside there marked (subst (λ e. list_any (saves n) e ≡ false) (sym p.1) refl))
-          (subst (λ s. HoldAlike (IsSettled c) s others') (sym stays) (subst (λ o. HoldAlike (IsSettled c) stores o) (sym also) h));
+        (subst (λ s. HoldAlike (IsSettled c) s others') (sym stays) (subst (λ o. HoldAlike (IsSettled c) stores o) (sym also) h));
   }
   rooms_alike slot slot' turn turn' puts puts' (inl p) (inr q) = absurd (not_free_second c d a slot p.0 q.1.0)
   rooms_alike slot slot' turn turn' puts puts' (inr p) (inl q) = absurd (not_free_first c d a slot' p.1.0 q.0)
@@ -128,7 +128,7 @@ module _ (c d : Cached) (a : AreAlike c d) where
     puts_same = q.3 ∙ calls ∙ sym p.3;
     hold = λ stores others stores' others' h f g.
         subst (λ e. HoldAlike (IsSettledBut c e) stores' others') (sym p.2)
-          (turned_out slot p.0 (slot_at c slot).marked stores others stores' others' h (subst (λ x. AreCalled x stores stores') p.3 f) (subst (λ x. AreCalled x others others') (q.3 ∙ calls) g));
+        (turned_out slot p.0 (slot_at c slot).marked stores others stores' others' h (subst (λ x. AreCalled x stores stores') p.3 f) (subst (λ x. AreCalled x others others') (q.3 ∙ calls) g));
   }
     where
       same : (slot' ≡ slot) × (q.0 ≡ p.0)

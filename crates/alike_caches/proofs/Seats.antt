@@ -1,19 +1,15 @@
 -- Slots of caches that are alike.
-use Rattle.std.proofs.Common.{◌≡◌, ◌≢◌, ◌∙◌, inl, inr, ◌⊎◌, ℕ, suc, ◌+◌, ◌<◌, ◌≤◌, nat_lt, Bool, true, false, not, cond, IsTrue, List, [], ◌∷◌, ◌++◌, length, map, take, Option, None, Some, slice_index, slice_index_or, refl, sym, ap, subst, arith}
-use Rattle.std.specs.List.{find}
+use Rattle.std.proofs.Common.{◌≡◌, ◌∙◌, inl, inr, ℕ, suc, ◌<◌, ◌≤◌, nat_lt, false, IsTrue, List, [], ◌∷◌, length, take, Option, None, Some, slice_index, slice_index_or, refl, sym, ap, subst, arith}
 use Rattle.std.proofs.lemmas.Bool.{cases_lt}
 use Rattle.std.proofs.lemmas.List.{ext_get_or, get_or-map, get_or-take}
 use Rattle.std.proofs.lemmas.Grind.{same_number_lists}
 use Rattle.cell_grid.specs.declared.level.Level.{Level}
 use Rattle.cell_grid.specs.Pyramid.{cells_of, voxels_of, frame_of, lane_of}
 use Rattle.cell_grid.proofs.FrameLemmas.{frame_bounds}
-use Rattle.recency.specs.Order.{Order, victim_of}
-use Rattle.arr_history.specs.declared.cell_state.CellState.{CellState}
-use Rattle.arr_history.specs.declared.cell_state.CellState.TheVariants as cell
+use Rattle.recency.specs.Order.{victim_of}
 use Rattle.sole_cache.specs.Slot.{SlotValue, slot_in, no_slot}
-use Rattle.sole_cache.specs.Cached.{Cached, slot_of, slot_at, state_at, pins_at, array_at, state_of, stands, store_of, store_in}
-use Rattle.sole_cache.specs.Room.{pinned, IsLowestFree, IsFull, IsVictim}
-use Rattle.sole_cache.specs.Valid.{IsCache}
+use Rattle.sole_cache.specs.Cached.{Cached, slot_of, slot_at, state_at, pins_at, array_at, stands, store_of, store_in}
+use Rattle.sole_cache.specs.Room.{pinned, IsLowestFree, IsVictim}
 use Rattle.alike_caches.specs.Alike.{AreAlike}
 
 pub some_same : {X : Type 0} (x y : X) → Some x ≡ Some y → x ≡ y
@@ -90,9 +86,9 @@ module _ (c d : Cached) (a : AreAlike c d) where
   lowest_free_same i j f g = elim (cases_lt i j) [
     | inl lt ↦ absurd (g.2 i lt (cell_same i ∙ f.1))
     | inr le ↦ elim (cases_lt j i) [
-        | inl lt ↦ absurd (f.2 j lt (sym (cell_same j) ∙ g.1))
-        | inr ge ↦ omega (arith, le, ge)
-      ]
+      | inl lt ↦ absurd (f.2 j lt (sym (cell_same j) ∙ g.1))
+      | inr ge ↦ omega (arith, le, ge)
+    ]
   ]
 
   -- Where none is free in one, none is free in the other.
@@ -143,5 +139,5 @@ module _ (c d : Cached) (a : AreAlike c d) where
       each : (x : ℕ) → x < voxels_of c.levels n → slice_index (take (voxels_of c.levels n) (slot_at d i).frame) x ≡ slice_index (take (voxels_of c.levels n) (slot_at c i).frame) x
       each x lt = get_or-take (voxels_of c.levels n) (slot_at d i).frame x 0 lt
           ∙ sym (subst (λ q. slice_index (slot_at c i).frame x ≡ slice_index (array_at d.slots q (stands d n)) x) (slot_in_second n i live)
-              (subst (λ p. slice_index (array_at c.slots p (stands c n)) x ≡ slice_index (array_at d.slots (slot_of d n) (stands d n)) x) live (a.same.arrays n (in_range n i live) (told_first n) x lt)))
+          (subst (λ p. slice_index (array_at c.slots p (stands c n)) x ≡ slice_index (array_at d.slots (slot_of d n) (stands d n)) x) live (a.same.arrays n (in_range n i live) (told_first n) x lt)))
           ∙ sym (get_or-take (voxels_of c.levels n) (slot_at c i).frame x 0 lt)

@@ -1,8 +1,8 @@
 -- The puts by which caches that are alike are shut.
-use Rattle.std.proofs.Common.{◌≡◌, ◌∙◌, ℕ, zero, suc, ◌<◌, Bool, true, false, IsTrue, List, [], ◌∷◌, ◌++◌, length, take, Option, None, Some, append_assoc, refl, sym, ap, subst, arith}
+use Rattle.std.proofs.Common.{◌≡◌, ◌∙◌, ℕ, zero, suc, Bool, true, false, List, [], ◌∷◌, ◌++◌, length, take, Option, None, Some, append_assoc, refl, sym, ap, subst, arith}
 use Rattle.std.specs.Str.{bytes_eq}
 use Rattle.cell_grid.specs.declared.level.Level.{Level}
-use Rattle.cell_grid.specs.Pyramid.{cells_of, voxels_of, lane_of}
+use Rattle.cell_grid.specs.Pyramid.{voxels_of, lane_of}
 use Rattle.cell_store.specs.Store.{Contents}
 use Rattle.cell_store.specs.declared.store.Put.{Put}
 use Rattle.cell_store.specs.declared.store.Put.TheVariants as put
@@ -65,7 +65,7 @@ module _ (levels : List Level) (lanes : ℕ) where
     calls = q.1 ∙ sym p.1;
     hold = hold_fewer (λ lane key. Q lane key × P lane key) (λ lane key. IsUnnamed levels lanes u lane key × P lane key) stores' others' (λ lane key r. (every lane key, r.1))
         (subst (λ s. HoldAlike (λ lane key. Q lane key × P lane key) s others') (sym (subst (λ x. AreCalled x stores stores') p.1 f))
-          (subst (λ o. HoldAlike (λ lane key. Q lane key × P lane key) stores o) (sym (subst (λ x. AreCalled x others others') q.1 g)) h));
+        (subst (λ o. HoldAlike (λ lane key. Q lane key × P lane key) stores o) (sym (subst (λ x. AreCalled x others others') q.1 g)) h));
   }
 
   -- a key that isn't that of the cell of a slot
@@ -139,19 +139,19 @@ module _ (levels : List Level) (lanes : ℕ) where
       let first = called_apart p.2 p.3 stores stores' (subst (λ x. AreCalled x stores stores') p.7 f) in
       let second = called_apart q.2 q.3 others others' (subst (λ x. AreCalled x others others') q.7 g) in
       let parts : FailAlike (p.2 ++ (p.3 ++ m)) (q.2 ++ (q.3 ++ n)) =
-          subst (λ x. FailAlike x (q.2 ++ (q.3 ++ n))) (append_assoc p.2 p.3 m) (subst (λ y. FailAlike ((p.2 ++ p.3) ++ m) y) (append_assoc q.2 q.3 n)
-            (subst (λ x. FailAlike (x ++ m) ((q.2 ++ q.3) ++ n)) p.7 (subst (λ y. FailAlike (k ++ m) (y ++ n)) q.7 fail))) in
+      subst (λ x. FailAlike x (q.2 ++ (q.3 ++ n))) (append_assoc p.2 p.3 m) (subst (λ y. FailAlike ((p.2 ++ p.3) ++ m) y) (append_assoc q.2 q.3 n)
+      (subst (λ x. FailAlike (x ++ m) ((q.2 ++ q.3) ++ n)) p.7 (subst (λ y. FailAlike (k ++ m) (y ++ n)) q.7 fail))) in
       let begin = hold_fewer (λ lane key. IsClear (s ∷ slots) lane key × P lane key) (λ lane key. IsClearOf s lane key × (IsClear slots lane key × P lane key)) stores others (λ lane key r. (clear_more s slots lane key r.0 r.1.0, r.1.1)) h in
       let one = closes_slot (λ lane key. IsClear slots lane key × P lane key) s t p.0 q.0 p.2 q.2 (p.3 ++ m) (q.3 ++ n) stores others first.0 second.0 begin first.1 second.1 parts (same 0) p.4 q.4 in
       let on = hold_fewer (λ lane key. IsUnnamed levels lanes p.0 lane key × (IsClear slots lane key × P lane key)) (λ lane key. IsClear slots lane key × (IsUnnamed levels lanes p.0 lane key × P lane key)) first.0 second.0 (λ lane key r. (r.1.0, (r.0, r.1.1))) one.hold in
       let more = closes_slots (λ lane key. IsUnnamed levels lanes p.0 lane key × P lane key) slots also p.1 q.1 p.3 q.3 m n first.0 second.0 stores' others' (few_more few) (λ i. same (suc i)) on p.5 q.5 first.2 second.2
-          (fail_after p.2 (p.3 ++ m) (q.3 ++ n) (subst (λ y. FailAlike (p.2 ++ (p.3 ++ m)) (y ++ (q.3 ++ n))) one.calls parts)) in
+      (fail_after p.2 (p.3 ++ m) (q.3 ++ n) (subst (λ y. FailAlike (p.2 ++ (p.3 ++ m)) (y ++ (q.3 ++ n))) one.calls parts)) in
       record {
         named = q.6 ∙ ap (λ x. x ++ q.1) one.named ∙ ap (λ x. p.0 ++ x) more.named ∙ sym p.6;
         calls = q.7 ∙ ap (λ x. x ++ q.3) one.calls ∙ ap (λ x. p.2 ++ x) more.calls ∙ sym p.7;
         hold = subst (λ x. HoldAlike (λ lane key. IsUnnamed levels lanes x lane key × P lane key) stores' others') (sym p.6)
             (hold_fewer (λ lane key. IsUnnamed levels lanes p.1 lane key × (IsUnnamed levels lanes p.0 lane key × P lane key)) (λ lane key. IsUnnamed levels lanes (p.0 ++ p.1) lane key × P lane key) stores' others'
-              (λ lane key r. let apart = unnamed_apart p.0 p.1 lane key r.0 in (apart.1, (apart.0, r.1))) more.hold);
+            (λ lane key r. let apart = unnamed_apart p.0 p.1 lane key r.0 in (apart.1, (apart.0, r.1))) more.hold);
       }
     where
       few_more : suc (length also) ≡ suc (length slots) → length also ≡ length slots
@@ -178,8 +178,7 @@ shuts_alike c d u v k l m n stores others a p q f g fail =
     let q' : ArePut c.levels (length c.shown) d.slots v l = subst (λ (x : List Level). ArePut x (length c.shown) d.slots v l) a.levels (subst (λ x. ArePut d.levels x d.slots v l) a.lanes q) in
     let begin = hold_fewer (IsSettled c) (λ lane key. IsClear c.levels (length c.shown) c.slots lane key × Unit {0}) c.shown d.shown (λ lane key r. clear_settled c d a lane key r.0) (hold_alike c d a) in
     let same = closes_slots c.levels (length c.shown) (λ _ _. Unit {0}) c.slots d.slots u v k l m n c.shown d.shown stores others a.slots (slots_alike c d a) begin p q' f g fail in
-    let count = called_lanes k c.shown stores f in
-    (
+    let count = called_lanes k c.shown stores f in (
       same.named,
       record {
         lanes = same.hold.lanes;

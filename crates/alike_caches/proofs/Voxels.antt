@@ -1,6 +1,5 @@
 -- Gets and sets of voxels of caches that are alike.
-use Rattle.std.proofs.Common.{◌≡◌, ◌∙◌, ℕ, ◌+◌, ◌-◌, ◌*◌, ◌<◌, ◌≤◌, min, Bool, true, false, List, [], ◌∷◌, ◌++◌, length, slice_index, Result, refl, sym, ap, subst, arith}
-use Rattle.std.specs.List.{list_any}
+use Rattle.std.proofs.Common.{◌≡◌, ◌∙◌, ℕ, ◌+◌, ◌-◌, ◌*◌, ◌<◌, ◌≤◌, min, List, [], ◌∷◌, ◌++◌, length, slice_index, Result, refl, sym, ap, subst, arith}
 use Rattle.std.specs.declared.result.Result.TheVariants as outcome
 use Rattle.cell_grid.specs.declared.level.Level.{Level}
 use Rattle.cell_grid.specs.Kind.{greatest_of}
@@ -12,7 +11,6 @@ use Rattle.cell_file.specs.declared.errors.CellErr.{CellErr}
 use Rattle.cell_file.specs.declared.errors.CellErr.TheVariants as cell_err
 use Rattle.arr_history.specs.declared.event.Event.{Event}
 use Rattle.arr_history.specs.declared.event.Event.TheVariants.{Read, Unpin, Mark, Write}
-use Rattle.arr_history.specs.Tally.{is_writeback}
 use Rattle.sole_cache.specs.Cached.{Cached}
 use Rattle.sole_cache.specs.Handle.{Handle}
 use Rattle.sole_cache.specs.Pieces.{IsOutside}
