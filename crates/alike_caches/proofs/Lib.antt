@@ -1,1 +1,11 @@
-
+pub mod Calls
+pub mod Seats
+pub mod Marks
+pub mod After
+pub mod Looking
+pub mod Asking
+pub mod Rooms
+pub mod Courses
+pub mod Acquiring
+pub mod Voxels
+pub mod Shutting
