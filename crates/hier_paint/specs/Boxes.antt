@@ -5,12 +5,12 @@ use Rattle.cell_grid.specs.declared.level.Level.{Level}
 use Rattle.cell_grid.specs.Pyramid.{sides_of, IsVoxelOf}
 use Rattle.hier_paint.specs.declared.cell_box.CellBox.{CellBox}
 
--- a box is that of a cell: its lowest voxel is the cell's first, and its sides are the cell's
+-- A box is that of a cell: its lowest voxel is the one at offset 0 there, and its sides are the cell's.
 pub record IsBoxOf (levels : List Level) (cell : ℕ) (b : CellBox) : Type 0 where
   pub lowest : IsVoxelOf levels b.level b.low cell 0
   pub sides_are : b.sides ≡ sides_of levels cell
 
--- a voxel lies in a box of these sides, so far from its lowest one
+-- A voxel lies in a box with this lowest voxel and these sides, at this position there.
 pub record IsInside (voxel low sides at : List ℕ) : Type 0 where
   pub within : IsWithin at sides
   pub three : length voxel ≡ 3

@@ -58,7 +58,8 @@ pub fn let_go<E: Eyes>(eyes: &mut E, hand: &mut Hand<E::Held>)
     }
 }
 
-/// Looks at a cell with an empty hand, and holds it where it is ready.
+/// Looks at a cell with an empty hand, and holds it where it is ready. Out of line, since few pixels come here.
+#[inline(never)]
 fn look<E: Eyes>(
     eyes: &mut E,
     hand: &mut Hand<E::Held>,

@@ -48,6 +48,8 @@ pub fn voxel_on(
     }
 }
 
+/// Out of line, since LLVM would else do its products at each pixel.
+#[inline(never)]
 fn voxel_at(geometry: &Geometry, affine: &Affine, level: u8, x: u32, y: u32) -> [i64; 3]
     requires level { level < length geometry.now }
     requires column { x < 4096 }
@@ -98,8 +100,19 @@ fn place_at<H>(geometry: &Geometry, hand: &Hand<H>, level: u8, voxel: [u64; 3]) 
 {
     match hand.place(level, voxel) {
         Some(place) => Some(place),
-        None => geometry.place(level, voxel),
+        None => place_by_division(geometry, level, voxel),
     }
+}
+
+/// The place of a voxel, as the geometry has it. Out of line, since few pixels come here.
+#[inline(never)]
+fn place_by_division(geometry: &Geometry, level: u8, voxel: [u64; 3]) -> Option<Place>
+    ensures outside { (shape : Level) → slice_get geometry.now level ≡ Some shape → IfNone result (¬ IsWithin voxel shape.extent.dims) }
+    ensures voxel { IfSome result (λ place. IsVoxelOf geometry.now level voxel place.cell place.at) }
+    ensures cell { IfSome result (λ place. place.cell < cells_of geometry.now) }
+    ensures at { IfSome result (λ place. place.at < voxels_of geometry.now place.cell) }
+{
+    geometry.place(level, voxel)
 }
 
 /// The coordinates of a voxel, where none is negative.

@@ -1,11 +1,13 @@
 -- What commands answer, from what was done.
-use Rattle.std.proofs.Common.{◌≡◌, ◌∙◌, ℕ, List, [], ◌∷◌, ◌++◌, true, false, refl, subst}
+use Rattle.std.proofs.Common.{◌≡◌, ◌∙◌, ℕ, List, [], ◌∷◌, ◌++◌, true, false, refl, sym, ap, subst}
 use Rattle.std.specs.Prelude.{Result, Ok, Err}
 use Rattle.std.proofs.lemmas.List.{append-nil}
 use Rattle.arr_history.specs.declared.event.Event.{Event}
 use Rattle.cell_file.specs.declared.errors.AcquireErr.{AcquireErr}
 use Rattle.cell_file.specs.declared.errors.CellErr.{CellErr}
 use Rattle.cell_file.specs.declared.errors.CellErr.TheVariants as cell_err
+use Rattle.store_calls.specs.Calls.{StoreCall, AreCalled}
+use Rattle.store_calls.proofs.Composed.{called_on}
 use Rattle.fetchers.specs.declared.fetched.Fetched.{Fetched}
 use Rattle.fetchers.specs.declared.served.Served.{Served}
 use Rattle.fetchers.specs.Servings.{IsAnswer}
@@ -20,17 +22,20 @@ use Rattle.scale_pick.specs.declared.view.View.{View}
 use Rattle.scale_pick.specs.Painted.{painted_of, IsComplete}
 use Rattle.scale_pick.specs.Picture.{IsFilled}
 use Rattle.scale_pick.specs.Wanted.{wanted_level}
+use Rattle.sole_cache.specs.Acquires.{GetsVoxel, SetsVoxel}
 use Rattle.sole_cache.specs.Cached.{Cached}
 use Rattle.sole_cache.specs.Moves.{Runs}
 use Rattle.sole_cache.specs.Pieces.{IsGet, IsSet, IsCellCaused}
 use Rattle.view_script.specs.declared.command.Command.TheVariants as command
 use Rattle.volatile_cell.specs.Asked.{Asked}
-use Rattle.team_run.specs.Desk.{Desk, DeskLeads, IsDeskRefusal, desk, levels_at}
-use Rattle.team_run.specs.Fetches.{AreDeskServings, fetch_answer}
-use Rattle.team_run.specs.Serve.{Answers, IsGot, IsPut, refusal_in}
+use Rattle.volatile_cell.proofs.Following.{follows_called}
+use Rattle.team_run.specs.Desk.{Desk, DeskLeads, DeskFollows, IsDeskRefusal, desk, levels_at}
+use Rattle.team_run.specs.Fetches.{AreDeskServings, stores_of_all, fetch_answer}
+use Rattle.team_run.specs.Serve.{Answers, IsGot, IsPut, AsksGet, AsksSet, refusal_in}
 use Rattle.team_run.specs.Trace.{Trace}
 use Rattle.team_run.specs.Views.{HasLevel, LacksLevel}
-use Rattle.team_run.proofs.EyesLemmas.{desk_on, desk_stays}
+use Rattle.team_run.proofs.EyesLemmas.{desk_on, desk_stays, desk_leads}
+use Rattle.team_run.proofs.Called.{get_called, set_called, servings_called}
 use Rattle.fetch_queue.specs.Queue.{Queue}
 
 -- the refusals of a get and of a set
@@ -46,59 +51,86 @@ put_refused a b level pos x cell_err.Outside events h cause = (h, tt)
 put_refused a b level pos x (cell_err.TooLarge value) events h cause = (h, tt)
 put_refused a b level pos x (cell_err.Acquire err) events h cause = (h, cause)
 
+-- what a get and a set that are refused ask of the stores
+asked_get : (a b : Cached) (level : ℕ) (pos : List ℕ) (err : CellErr) (stores : List StoreCall) → GetsVoxel a level pos (Err err) stores b → AsksGet a level pos (answer.Refused (refusal_in err)) stores b
+asked_get a b level pos cell_err.Outside stores asks = asks
+asked_get a b level pos (cell_err.TooLarge value) stores asks = asks
+asked_get a b level pos (cell_err.Acquire err) stores asks = asks
+
+asked_set : (a b : Cached) (level : ℕ) (pos : List ℕ) (x : ℕ) (err : CellErr) (stores : List StoreCall) → SetsVoxel a level pos x (Err err) stores b
+    → AsksSet a level pos x (answer.Refused (refusal_in err)) stores b
+asked_set a b level pos x cell_err.Outside stores asks = asks
+asked_set a b level pos x (cell_err.TooLarge value) stores asks = asks
+asked_set a b level pos x (cell_err.Acquire err) stores asks = asks
+
+pub get_refused_asks : (a b : Cached) (level : ℕ) (pos : List ℕ) (err : CellErr) (told : Answer) → told ≡ answer.Refused (refusal_in err) → (stores : List StoreCall) × GetsVoxel a level pos (Err err) stores b
+    → (stores : List StoreCall) × AsksGet a level pos told stores b
+get_refused_asks a b level pos err told is asks = (asks.0, subst (λ (t : Answer). AsksGet a level pos t asks.0 b) (sym is) (asked_get a b level pos err asks.0 asks.1))
+
+pub set_refused_asks : (a b : Cached) (level : ℕ) (pos : List ℕ) (x : ℕ) (err : CellErr) (told : Answer) → told ≡ answer.Refused (refusal_in err) → (stores : List StoreCall) × SetsVoxel a level pos x (Err err) stores b
+    → (stores : List StoreCall) × AsksSet a level pos x told stores b
+set_refused_asks a b level pos x err told is asks = (asks.0, subst (λ (t : Answer). AsksSet a level pos x t asks.0 b) (sym is) (asked_set a b level pos x err asks.0 asks.1))
+
 -- events alone lead from a cache with its queue
 events_lead : (a b : Cached) (q : Queue) (events : List Event) → Runs a events b → DeskLeads (desk a q) events [] (desk b q)
 events_lead a b q events runs = record { cache = record { moves = runs.moves; tally = λ _. runs.tally }; queue = refl }
 
-events_alone : List Event → Trace
-events_alone events = record { events = events; calls = []; shots = []; servings = [] }
+events_alone : List Event → List StoreCall → Trace
+events_alone events stores = record { events = events; calls = []; stores = stores; shots = []; servings = [] }
 
 pub get_answers : (a b : Cached) (q : Queue) (viewer level : ℕ) (pos : List ℕ) (told : Answer) → (events : List Event) × IsGot a level pos told events b × Runs a events b
-    → Answers (desk a q) viewer (command.Get level pos) told [] (desk b q)
+    → (stores : List StoreCall) × AsksGet a level pos told stores b → Answers (desk a q) viewer (command.Get level pos) told [] (desk b q)
 unfolding events_alone
-get_answers a b q viewer level pos told h = record {
-  trace = events_alone h.0;
+get_answers a b q viewer level pos told h asks = record {
+  trace = events_alone h.0 asks.0;
   shots_are = refl;
-  served = (h.1, record { calls = refl; shots = refl; servings = refl });
+  served = (h.1, asks.1, record { calls = refl; shots = refl; servings = refl });
   leads = events_lead a b q h.0 h.2;
+  called = get_called a b level pos told asks.0 asks.1;
 }
 
 pub set_answers : (a b : Cached) (q : Queue) (viewer level : ℕ) (pos : List ℕ) (x : ℕ) (told : Answer) → (events : List Event) × IsPut a level pos x told events b × Runs a events b
-    → Answers (desk a q) viewer (command.Set level pos x) told [] (desk b q)
+    → (stores : List StoreCall) × AsksSet a level pos x told stores b → Answers (desk a q) viewer (command.Set level pos x) told [] (desk b q)
 unfolding events_alone
-set_answers a b q viewer level pos x told h = record {
-  trace = events_alone h.0;
+set_answers a b q viewer level pos x told h asks = record {
+  trace = events_alone h.0 asks.0;
   shots_are = refl;
-  served = (h.1, record { calls = refl; shots = refl; servings = refl });
+  served = (h.1, asks.1, record { calls = refl; shots = refl; servings = refl });
   leads = events_lead a b q h.0 h.2;
+  called = set_called a b level pos x told asks.0 asks.1;
 }
 
 module _ (a b : Desk) (viewer : ℕ) (view : View) (shot : Shot) where
   pub no_level_answers : LacksLevel (levels_at a) view → shot.shown ≡ false → Answers a viewer (command.View shot.name view) (answer.Refused refusal.Outside) (shot ∷ []) a
   no_level_answers lacks hidden = record {
-    trace = record { events = []; calls = []; shots = shot ∷ []; servings = [] };
+    trace = record { events = []; calls = []; stores = []; shots = shot ∷ []; servings = [] };
     shots_are = refl;
-    served = (shot, refl, refl, refl, record { lacks = lacks; hidden = hidden; no_events = refl; no_calls = refl });
+    served = (shot, refl, refl, refl, record { lacks = lacks; hidden = hidden; no_events = refl; no_calls = refl; no_stores = refl; stays = refl });
     leads = desk_stays a;
+    called = refl;
   }
 
   pub frame_answers : (painted : Painted) → HasLevel (levels_at a) view → shot.shown ≡ true → IsFilled shot.picture → painted ≡ painted_of (wanted_level (levels_at a) view) shot.picture
-      → (view.strategy ≡ Blocking → IsComplete (wanted_level (levels_at a) view) shot.picture) → IsFrame DeskLeads levels_at (λ _. 0) (λ _. viewer) a b view shot.picture
+      → (view.strategy ≡ Blocking → IsComplete (wanted_level (levels_at a) view) shot.picture) → IsFrame DeskFollows levels_at (λ _. 0) (λ _. viewer) a b view shot.picture
       → Answers a viewer (command.View shot.name view) (answer.Frame painted) (shot ∷ []) b
   frame_answers painted exists shown filled told blocking frame = record {
-    trace = record { events = frame.events; calls = frame.calls; shots = shot ∷ []; servings = [] };
+    trace = record { events = frame.events; calls = frame.calls; stores = frame.led.cache.calls; shots = shot ∷ []; servings = [] };
     shots_are = refl;
-    served = (shot, refl, refl, refl, record { exists = exists; shown = shown; filled = filled; told = told; blocking = blocking; frame = frame; events_are = refl; calls_are = refl });
-    leads = frame.led;
+    served = (shot, refl, refl, refl, record { exists = exists; shown = shown; filled = filled; told = told; blocking = blocking; frame = frame; events_are = refl; calls_are = refl; stores_are = refl });
+    leads = desk_leads a b frame.events frame.calls frame.led;
+    called = follows_called a.cache b.cache frame.events frame.led.cache.calls frame.led.cache.follows;
   }
 
-  pub cut_answers : (err : AcquireErr) → HasLevel (levels_at a) view → shot.shown ≡ false → IsCutOff DeskLeads levels_at (λ _. 0) (λ _. viewer) IsDeskRefusal a b view shot.picture err
+  pub cut_answers : (err : AcquireErr) → HasLevel (levels_at a) view → shot.shown ≡ false → IsCutOff DeskFollows levels_at (λ _. 0) (λ _. viewer) IsDeskRefusal a b view shot.picture err
       → Answers a viewer (command.View shot.name view) (answer.Refused (refusal.Acquire err)) (shot ∷ []) b
   cut_answers err exists hidden cut = record {
-    trace = record { events = cut.events ++ cut.piece; calls = cut.calls; shots = shot ∷ []; servings = [] };
+    trace = record { events = cut.events ++ cut.piece; calls = cut.calls; stores = cut.led.cache.calls ++ cut.cause.calls; shots = shot ∷ []; servings = [] };
     shots_are = refl;
-    served = (shot, refl, refl, refl, record { exists = exists; hidden = hidden; cut = cut; events_are = refl; calls_are = refl });
-    leads = subst (λ (calls : List Asked). DeskLeads a (cut.events ++ cut.piece) calls b) (append-nil cut.calls) (desk_on a cut.between b cut.events cut.piece cut.calls [] cut.led cut.refused);
+    served = (shot, refl, refl, refl, record { exists = exists; hidden = hidden; cut = cut; events_are = refl; calls_are = refl; stores_are = refl });
+    leads = subst (λ (calls : List Asked). DeskLeads a (cut.events ++ cut.piece) calls b) (append-nil cut.calls)
+        (desk_on a cut.between b cut.events cut.piece cut.calls [] (desk_leads a cut.between cut.events cut.calls cut.led) (desk_leads cut.between b cut.piece [] cut.refused));
+    called = called_on a.cache.shown cut.between.cache.shown b.cache.shown cut.led.cache.calls cut.cause.calls
+        (follows_called a.cache cut.between.cache cut.events cut.led.cache.calls cut.led.cache.follows) cut.cause.acquires.called;
   }
 
 -- a fetch, from its servings and what its result tells
@@ -112,8 +144,9 @@ pub fetch_answers : {X : Type 0} (a b : Desk) (viewer count : ℕ) (told : Answe
 fetch_answers a b viewer count told result servings events calls answered is leads are =
     let same = answer_as (tt {0}) count servings result answered in
     record {
-      trace = record { events = events; calls = calls; shots = []; servings = servings };
+      trace = record { events = events; calls = calls; stores = stores_of_all a b servings events calls are; shots = []; servings = servings };
       shots_are = refl;
-      served = (refl, record { are = are; result = same.0; answer = same.1; told_is = is ∙ same.2 });
+      served = (refl, record { are = are; stores_are = refl; result = same.0; answer = same.1; told_is = is ∙ same.2 });
       leads = leads;
+      called = servings_called a b servings events calls are;
     }

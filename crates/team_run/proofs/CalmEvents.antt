@@ -22,9 +22,8 @@ use Rattle.scale_pick.specs.declared.view.View.{View}
 use Rattle.scale_pick.specs.Picture.{Pixels}
 use Rattle.volatile_cell.specs.Asked.{Asked}
 use Rattle.volatile_cell.specs.Pieces.{misses, IsTurnOut, IsGranted, IsRefused, IsDropped, IsHeldUp}
-use Rattle.fetchers.specs.Servings.{IsServing}
-use Rattle.team_run.specs.Desk.{Desk, DeskLeads, IsDeskRefusal, levels_at}
-use Rattle.team_run.specs.Fetches.{AreDeskServings}
+use Rattle.team_run.specs.Desk.{Desk}
+use Rattle.team_run.specs.Fetches.{IsDeskServing, AreDeskServings}
 use Rattle.team_run.proofs.Unwritten.{Unwritten}
 
 abbrev is_calm : Event → Bool
@@ -94,16 +93,16 @@ turn_calm turn more (inr (v, saved, is)) h = subst (λ t. AreCalm (t ++ more)) (
 
 -- the pieces of acquires
 pub granted_calm : (cell : ℕ) (loaded : Bool) (events : List Event) → IsGranted 0 cell loaded events → AreCalm events
-granted_calm cell false events (n, is) = subst AreCalm (sym is) (both_calm (misses 0 cell n) (event.Pin 0 cell ∷ []) (misses_calm cell n) refl)
-granted_calm cell true events (n, slot, turn, out, is) = subst AreCalm (sym is)
+granted_calm cell false events (n, few, is) = subst AreCalm (sym is) (both_calm (misses 0 cell n) (event.Pin 0 cell ∷ []) (misses_calm cell n) refl)
+granted_calm cell true events (n, few, slot, turn, out, is) = subst AreCalm (sym is)
     (both_calm (misses 0 cell (suc n)) (event.Claim 0 cell ∷ (turn ++ event.Live 0 cell slot ∷ [])) (misses_calm cell (suc n)) (turn_calm turn (event.Live 0 cell slot ∷ []) out refl))
 
 dropped_calm : (cell : ℕ) (events : List Event) → IsDropped 0 cell events → AreCalm events
-dropped_calm cell events (n, turn, out, is) = subst AreCalm (sym is)
+dropped_calm cell events (n, few, turn, out, is) = subst AreCalm (sym is)
     (both_calm (misses 0 cell (suc n)) (event.Claim 0 cell ∷ (turn ++ event.Drop 0 cell ∷ [])) (misses_calm cell (suc n)) (turn_calm turn (event.Drop 0 cell ∷ []) out refl))
 
 held_up_calm : (cell : ℕ) (events : List Event) → IsHeldUp 0 cell events → AreCalm events
-held_up_calm cell events (n, v, is) = subst AreCalm (sym is)
+held_up_calm cell events (n, few, v, is) = subst AreCalm (sym is)
     (both_calm (misses 0 cell (suc n)) (event.Claim 0 cell ∷ event.Close 0 v ∷ event.Back 0 v ∷ event.Drop 0 cell ∷ []) (misses_calm cell (suc n)) refl)
 
 pub refused_calm : (cell : ℕ) (err : AcquireErr) (events : List Event) → IsRefused 0 cell err events → AreCalm events
@@ -146,7 +145,7 @@ module _ (viewer : ℕ) (levels : List Level) where
   pub cut_calm : (view : View) (picture : Pixels) (cell : ℕ) (events : List Event) → IsVisitedTo 0 viewer levels view picture cell events → AreCalm events
   cut_calm view picture cell events v = subst AreCalm (sym v.events_are) (both_calm v.looks (given_back 0 v.last.held) (visits_calm _ v.visits v.last v.looks v.calls v.are) (back_calm v.last.held))
 
-serving_calm : (a b : Desk) (s : Served) (events : List Event) (calls : List Asked) → IsServing DeskLeads levels_at (λ _. 0) IsDeskRefusal a s events calls b → AreCalm events
+serving_calm : (a b : Desk) (s : Served) (events : List Event) (calls : List Asked) → IsDeskServing a s events calls b → AreCalm events
 serving_calm a b served.Idle events calls h = subst AreCalm (sym h.none) refl
 serving_calm a b served.Held events calls h = subst AreCalm (sym h.given_back) (both_calm h.piece (event.Unpin 0 h.request.cell ∷ []) (granted_calm h.request.cell false h.piece h.granted) refl)
 serving_calm a b served.Loaded events calls h = subst AreCalm (sym h.given_back) (both_calm h.piece (event.Unpin 0 h.request.cell ∷ []) (granted_calm h.request.cell true h.piece h.granted) refl)

@@ -19,6 +19,8 @@ use Rattle.team_run.specs.Plain.{ArePlain}
 use Rattle.team_run.specs.Run.{Completes, fault_replies, fault_servings}
 use Rattle.team_run.specs.Serve.{Adds, ServesAll}
 use Rattle.team_run.specs.Trace.{Trace}
+use Rattle.store_calls.proofs.Composed.{called_on}
+use Rattle.team_run.proofs.Called.{serves_called}
 use Rattle.team_run.proofs.Faults.{serves_license, same_failed}
 use Rattle.team_run.proofs.Histories.{serves_lead, all_told, all_counted}
 use Rattle.team_run.proofs.PlainRuns.{runs_plain, same_kept}
@@ -48,6 +50,10 @@ module _ (on : MovesCompose) (none : NothingMoves) (grow : TalliesGrow) where
         history = on first.cache last.cache shut.last trace.events shut.closing moves shut.moves;
         unsaved = unsaved;
         closed = shut.closed;
+        closing_calls = shut.calls;
+        called = called_on first.cache.shown last.cache.shown stores trace.stores shut.calls (serves_called first last commands report.replies trace served) shut.called;
+        puts = shut.puts;
+        valid = shut.valid;
         counts = tally_is ∙ shut.counts ∙ all_counted grow last.cache.tally trace.events shut.closing (all_told grow first last trace.events begun lead.cache);
         named = named;
         ascending = ascending;

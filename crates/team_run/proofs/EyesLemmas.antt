@@ -11,16 +11,18 @@ use Rattle.volatile_cell.specs.declared.queue_call.QueueCall.{QueueCall}
 use Rattle.volatile_cell.specs.declared.queue_call.QueueCall.TheVariants as call
 use Rattle.volatile_cell.specs.Asked.{Asked, AskedFrom, after_call, is_put}
 use Rattle.volatile_cell.specs.SoleLaws.{leads_nowhere, leads_after, asked_after}
-use Rattle.team_run.specs.Desk.{Desk, DeskLeads, IsReady, desk}
+use Rattle.team_run.specs.Desk.{Desk, DeskLeads, DeskFollows, IsReady, desk}
 use Rattle.std.proofs.lemmas.Grind.{common_steps}
 use Rattle.std.specs.Result.{IfErr, OnOk}
 use Rattle.cell_file.specs.declared.errors.AcquireErr.{AcquireErr}
 use Rattle.fetchers.specs.declared.served.Served.{Served}
 use Rattle.fetchers.specs.declared.served.Served.TheVariants as served
 use Rattle.fetchers.specs.Servings.{IsGrantedServing, IsServing, AreServings}
-use Rattle.hier_paint.specs.Frames.{IsFrame, IsCutOff, IsVisitedTo, KeepsRule}
+use Rattle.hier_paint.specs.Frames.{IsFrame, IsCutOff, IsVisited, IsVisitedTo, KeepsRule}
 use Rattle.scale_pick.specs.declared.painted.Painted.{Painted}
 use Rattle.scale_pick.specs.declared.view.View.{View}
+use Rattle.scale_pick.specs.Notes.{notes_of}
+use Rattle.scale_pick.specs.Painting.{IsPainting}
 use Rattle.scale_pick.specs.Picture.{Pixels}
 use Rattle.volatile_cell.specs.Pieces.{IsGranted, IsRefused}
 
@@ -83,6 +85,10 @@ desk_on a b d p q u v first second = record {
 pub desk_stays : (a : Desk) → DeskLeads a [] [] a
 desk_stays a = record { cache = leads_nowhere a.cache; queue = refl }
 
+-- what steps of eyes led to
+pub desk_leads : (a b : Desk) (p : List Event) (u : List Asked) → DeskFollows a p u b → DeskLeads a p u b
+desk_leads a b p u led = record { cache = led.cache.leads; queue = led.queue }
+
 -- a fact of a desk is one of the same desk by other names
 pub at_desk : {X : Type 0} (Fact : Desk → Type 0) (cached : X → Cached) (x x' : X) (q q' : Queue) → x' ≡ x → q' ≡ q → Fact (desk (cached x) q) → Fact (desk (cached x') q')
 at_desk Fact cached x x' q q' same_cache same_queue fact = subst (λ y. Fact (desk (cached y) q')) (sym same_cache) (subst (λ r. Fact (desk (cached x) r)) (sym same_queue) fact)
@@ -90,6 +96,23 @@ at_desk Fact cached x x' q q' same_cache same_queue fact = subst (λ y. Fact (de
 err_map : {X : Type 0} {E : Type 0} (r : Result X E) (P Q : E → Type 0) → IfErr r P → ((e : E) → P e → Q e) → IfErr r Q
 err_map (Ok x) P Q h f = tt
 err_map (Err e) P Q h f = f e h
+
+module _ {E : Type 0} (leads : E → List Event → List Asked → E → Type 0) (levels : E → List Level) (number viewer : E → ℕ) where
+  -- a frame, as another relation tells it
+  pub frame_as : {F : Type 0} (leads' : F → List Event → List Asked → F → Type 0) (levels' : F → List Level) (viewer' : F → ℕ) (f : E → F)
+      → ((a b : E) (p : List Event) (u : List Asked) → leads a p u b → leads' (f a) p u (f b))
+      → (result : Result Painted AcquireErr) (e e' : E) (view : View) (picture : Pixels) → levels e ≡ levels' (f e) → number e ≡ 0 → viewer e ≡ viewer' (f e)
+      → OnOk result (IsFrame leads levels number viewer e e' view picture) → OnOk result (IsFrame leads' levels' (λ _. 0) viewer' (f e) (f e') view picture)
+  frame_as leads' levels' viewer' f moves (Err err) e e' view picture same_levels zero same_viewer h = tt
+  frame_as leads' levels' viewer' f moves (Ok painted) e e' view picture same_levels zero same_viewer h = record {
+    events = h.events;
+    calls = h.calls;
+    led = moves e e' h.events h.calls h.led;
+    painting = subst (λ (ls : List Level). IsPainting ls view (notes_of view.strategy h.events) picture) same_levels h.painting;
+    rule = subst (λ v. KeepsRule view v (levels' (f e)) h.events h.calls) same_viewer (subst (λ (ls : List Level). KeepsRule view (viewer e) ls h.events h.calls) same_levels h.rule);
+    visited = subst (λ v. IsVisited 0 v (levels' (f e)) view picture h.events) same_viewer
+        (subst (λ (ls : List Level). IsVisited 0 (viewer e) ls view picture h.events) same_levels (subst (λ k. IsVisited k (viewer e) (levels e) view picture h.events) zero h.visited));
+  }
 
 module _ {E : Type 0} (leads : E → List Event → List Asked → E → Type 0) (levels : E → List Level) (number viewer : E → ℕ) (caused : E → E → ℕ → AcquireErr → Type 0) where
   -- what both kinds of frames give

@@ -15,7 +15,6 @@ use Rattle.cell_file.specs.declared.errors.AcquireErr.TheVariants as cause
 use Rattle.fetchers.specs.declared.served.Served.{Served}
 use Rattle.fetchers.specs.declared.served.Served.TheVariants as served
 use Rattle.fetchers.specs.declared.fetched.Fetched.{Fetched}
-use Rattle.fetchers.specs.Servings.{IsServing}
 use Rattle.run_report.specs.declared.reply.Answer.{Answer}
 use Rattle.run_report.specs.declared.reply.Answer.TheVariants as answer
 use Rattle.run_report.specs.declared.reply.Refusal.TheVariants as refusal
@@ -27,17 +26,18 @@ use Rattle.sole_cache.specs.Moves.{StoresMove}
 use Rattle.sole_cache.specs.Pieces.{IsCaused}
 use Rattle.sole_cache.specs.Shut.{Licenses, failed_puts}
 use Rattle.sole_cache.proofs.Faults.{none_failed, fault_rises, licenses_on}
+use Rattle.store_calls.specs.Calls.{StoreCall}
 use Rattle.view_script.specs.declared.command.Command.{Command}
 use Rattle.view_script.specs.declared.command.Command.TheVariants as command
 use Rattle.view_script.specs.Script.{NumberedCommand}
 use Rattle.volatile_cell.specs.Asked.{Asked}
-use Rattle.team_run.specs.Desk.{Desk, DeskLeads, IsDeskRefusal, levels_at}
-use Rattle.team_run.specs.Fetches.{AreDeskServings, fetch_answer}
+use Rattle.team_run.specs.Desk.{Desk, DeskLeads}
+use Rattle.team_run.specs.Fetches.{IsDeskServing, AreDeskServings, fetch_answer}
 use Rattle.team_run.specs.Run.{is_fault, is_fault_of, is_fault_served, fault_replies, fault_servings}
 use Rattle.team_run.specs.Serve.{IsGot, IsPut, IsServed, ServesAll}
 use Rattle.team_run.specs.Trace.{Trace}
 use Rattle.team_run.specs.Views.{IsViewed}
-use Rattle.team_run.proofs.EyesLemmas.{desk_on, desk_stays}
+use Rattle.team_run.proofs.EyesLemmas.{desk_on, desk_stays, desk_leads}
 use Rattle.team_run.proofs.Histories.{serves_lead}
 
 -- a fact counts one where it holds
@@ -59,13 +59,14 @@ later_licenses a b d p q u k first second h =
     let none : 0 + k ≡ k = omega arith in
     subst (λ n. Licenses a.cache.shown n d.cache.shown) none (licenses_on a.cache b.cache d.cache q 0 k second.cache.moves.stores (none_failed a.cache b.cache p first.cache.moves.stores) h)
 
-serving_licenses : (a b : Desk) (s : Served) (events : List Event) (calls : List Asked) → IsServing DeskLeads levels_at (λ _. 0) IsDeskRefusal a s events calls b
+serving_licenses : (a b : Desk) (s : Served) (events : List Event) (calls : List Asked) → IsDeskServing a s events calls b
     → Licenses a.cache.shown (one_if (is_fault_served s)) b.cache.shown
-serving_licenses a b served.Idle events calls h = none_failed a.cache b.cache events h.led.cache.moves.stores
-serving_licenses a b served.Held events calls h = none_failed a.cache b.cache events h.led.cache.moves.stores
-serving_licenses a b served.Loaded events calls h = none_failed a.cache b.cache events h.led.cache.moves.stores
+serving_licenses a b served.Idle events calls h = none_failed a.cache b.cache events h.led.cache.leads.moves.stores
+serving_licenses a b served.Held events calls h = none_failed a.cache b.cache events h.led.cache.leads.moves.stores
+serving_licenses a b served.Loaded events calls h = none_failed a.cache b.cache events h.led.cache.leads.moves.stores
 serving_licenses a b (served.Refused err) events calls h =
-    later_licenses a h.mid b [] events calls _ h.taken h.tried (acquire_licenses h.mid.cache b.cache h.request.cell err events h.cause.caused h.tried.cache.moves.stores)
+    later_licenses a h.mid b [] events calls _ (desk_leads a h.mid [] calls h.taken) (desk_leads h.mid b events [] h.tried)
+    (acquire_licenses h.mid.cache b.cache h.request.cell err events h.cause.caused h.tried.cache.leads.moves.stores)
 
 one_of : {X : Type 0} (p : X → Bool) (x : X) (xs : List X) → count_by p (x ∷ xs) ≡ one_if (p x) + count_by p xs
 one_of p x xs = sum_by-cons _ x xs
@@ -73,11 +74,12 @@ one_of p x xs = sum_by-cons _ x xs
 both_license : (a b d : Desk) (q : List Event) (v : List Asked) (k l n : ℕ) → DeskLeads b q v d → Licenses a.cache.shown k b.cache.shown → Licenses b.cache.shown l d.cache.shown → n ≡ k + l → Licenses a.cache.shown n d.cache.shown
 both_license a b d q v k l n leads first second is = subst (λ m. Licenses a.cache.shown m d.cache.shown) (sym is) (licenses_on a.cache b.cache d.cache q k l leads.cache.moves.stores first second)
 
-serving_leads : (a b : Desk) (s : Served) (events : List Event) (calls : List Asked) → IsServing DeskLeads levels_at (λ _. 0) IsDeskRefusal a s events calls b → DeskLeads a events calls b
-serving_leads a b served.Idle events calls h = h.led
-serving_leads a b served.Held events calls h = h.led
-serving_leads a b served.Loaded events calls h = h.led
-serving_leads a b (served.Refused err) events calls h = subst (λ (u : List Asked). DeskLeads a events u b) (append-nil calls) (desk_on a h.mid b [] events calls [] h.taken h.tried)
+serving_leads : (a b : Desk) (s : Served) (events : List Event) (calls : List Asked) → IsDeskServing a s events calls b → DeskLeads a events calls b
+serving_leads a b served.Idle events calls h = desk_leads a b events calls h.led
+serving_leads a b served.Held events calls h = desk_leads a b events calls h.led
+serving_leads a b served.Loaded events calls h = desk_leads a b events calls h.led
+serving_leads a b (served.Refused err) events calls h = subst (λ (u : List Asked). DeskLeads a events u b) (append-nil calls)
+    (desk_on a h.mid b [] events calls [] (desk_leads a h.mid [] calls h.taken) (desk_leads h.mid b events [] h.tried))
 
 servings_lead : (a b : Desk) (servings : List Served) (events : List Event) (calls : List Asked) → AreDeskServings a servings events calls b → DeskLeads a events calls b
 servings_lead a b [] events calls (none, silent, same) =
@@ -112,16 +114,17 @@ set_licenses a b level pos x (answer.Refused refusal.Outside) events h moves = n
 set_licenses a b level pos x (answer.Refused (refusal.TooLarge value)) events h moves = none_failed a b events moves
 set_licenses a b level pos x (answer.Refused (refusal.Acquire err)) events (piece, (cell, (at, (voxel, caused)))) moves = acquire_licenses a b cell err events caused moves
 
-view_licenses : (a b : Desk) (viewer : ℕ) (view : View) (shot : Shot) (events : List Event) (calls : List Asked) (told : Answer) → IsViewed a viewer view shot events calls told b → StoresMove a.cache events b.cache
+view_licenses : (a b : Desk) (viewer : ℕ) (view : View) (shot : Shot) (events : List Event) (calls : List Asked) (stores : List StoreCall) (told : Answer) → IsViewed a viewer view shot events calls stores told b → StoresMove a.cache events b.cache
     → Licenses a.cache.shown (one_if (is_fault told)) b.cache.shown
-view_licenses a b viewer view shot events calls (answer.Value x) h moves = absurd h
-view_licenses a b viewer view shot events calls answer.Done h moves = absurd h
-view_licenses a b viewer view shot events calls (answer.Frame painted) h moves = none_failed a.cache b.cache events moves
-view_licenses a b viewer view shot events calls (answer.Fetched loaded held refused) h moves = absurd h
-view_licenses a b viewer view shot events calls (answer.Refused refusal.Outside) h moves = none_failed a.cache b.cache events moves
-view_licenses a b viewer view shot events calls (answer.Refused (refusal.TooLarge value)) h moves = absurd h
-view_licenses a b viewer view shot events calls (answer.Refused (refusal.Acquire err)) h moves =
-    later_licenses a h.cut.between b h.cut.events h.cut.piece h.cut.calls _ h.cut.led h.cut.refused (acquire_licenses h.cut.between.cache b.cache h.cut.cell err h.cut.piece h.cut.cause.caused h.cut.refused.cache.moves.stores)
+view_licenses a b viewer view shot events calls stores (answer.Value x) h moves = absurd h
+view_licenses a b viewer view shot events calls stores answer.Done h moves = absurd h
+view_licenses a b viewer view shot events calls stores (answer.Frame painted) h moves = none_failed a.cache b.cache events moves
+view_licenses a b viewer view shot events calls stores (answer.Fetched loaded held refused) h moves = absurd h
+view_licenses a b viewer view shot events calls stores (answer.Refused refusal.Outside) h moves = none_failed a.cache b.cache events moves
+view_licenses a b viewer view shot events calls stores (answer.Refused (refusal.TooLarge value)) h moves = absurd h
+view_licenses a b viewer view shot events calls stores (answer.Refused (refusal.Acquire err)) h moves =
+    later_licenses a h.cut.between b h.cut.events h.cut.piece h.cut.calls _ (desk_leads a h.cut.between h.cut.events h.cut.calls h.cut.led) (desk_leads h.cut.between b h.cut.piece [] h.cut.refused)
+    (acquire_licenses h.cut.between.cache b.cache h.cut.cell err h.cut.piece h.cut.cause.caused h.cut.refused.cache.leads.moves.stores)
 
 -- what a command answers and serves
 abbrev faults_of : Answer → List Served → ℕ
@@ -138,9 +141,9 @@ fetched_faults (Err memory) = refl
 
 command_licenses : (a b : Desk) (viewer : ℕ) (command : Command) (told : Answer) (t : Trace) → IsServed a viewer command told t b → DeskLeads a t.events t.calls b
     → Licenses a.cache.shown (faults_of told t.servings) b.cache.shown
-command_licenses a b viewer (command.Get level pos) told t (got, alone) leads = no_servings a b told t.servings alone.servings (get_licenses a.cache b.cache level pos told t.events got leads.cache.moves.stores)
-command_licenses a b viewer (command.Set level pos x) told t (put, alone) leads = no_servings a b told t.servings alone.servings (set_licenses a.cache b.cache level pos x told t.events put leads.cache.moves.stores)
-command_licenses a b viewer (command.View name view) told t (shot, one, none, same, viewed) leads = no_servings a b told t.servings none (view_licenses a b viewer view shot t.events t.calls told viewed leads.cache.moves.stores)
+command_licenses a b viewer (command.Get level pos) told t (got, asks, alone) leads = no_servings a b told t.servings alone.servings (get_licenses a.cache b.cache level pos told t.events got leads.cache.moves.stores)
+command_licenses a b viewer (command.Set level pos x) told t (put, asks, alone) leads = no_servings a b told t.servings alone.servings (set_licenses a.cache b.cache level pos x told t.events put leads.cache.moves.stores)
+command_licenses a b viewer (command.View name view) told t (shot, one, none, same, viewed) leads = no_servings a b told t.servings none (view_licenses a b viewer view shot t.events t.calls t.stores told viewed leads.cache.moves.stores)
 command_licenses a b viewer (command.Fetch count) told t (none, fetched) leads =
     let quiet : one_if (is_fault told) + fault_servings t.servings ≡ fault_servings t.servings = omega (arith, ap one_if (ap is_fault fetched.told_is ∙ fetched_faults fetched.result)) in
     subst (λ n. Licenses a.cache.shown n b.cache.shown) (sym quiet) (servings_license a b t.servings t.events t.calls fetched.are leads)

@@ -1,4 +1,5 @@
 pub mod EyesLemmas
+pub mod Called
 pub mod AnswerLemmas
 pub mod ServeLemmas
 pub mod PlanLemmas

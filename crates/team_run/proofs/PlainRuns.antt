@@ -25,6 +25,7 @@ use Rattle.volatile_cell.specs.Asked.{Asked}
 use Rattle.std.specs.Prelude.{Result}
 use Rattle.std.specs.declared.result.Result.TheVariants.{Ok, Err}
 use Rattle.view_script.specs.declared.command.Command.{Command}
+use Rattle.store_calls.specs.Calls.{StoreCall}
 use Rattle.view_script.specs.declared.command.Command.TheVariants as command
 use Rattle.view_script.specs.Script.{NumberedCommand}
 use Rattle.team_run.specs.Plain.{AreSame, ArePlain, PlainStep}
@@ -113,21 +114,21 @@ module _ (b : Shape) (levels : List Level) (a d : Desk) (arrays : ℕ → ℕ �
   put_plain level pos x (answer.Refused (refusal.TooLarge value)) events shots ((same_value, (cell, (at, (voxel, (large, none))))), caused) led = (arrays, (refl, none_plain events none led))
   put_plain level pos x (answer.Refused (refusal.Acquire err)) events shots ((cell, (at, (voxel, (small, piece)))), caused) led = (arrays, (refl, quiet_plain events (refused_unwritten a.cache cell err events piece) led))
 
-  view_plain : (viewer : ℕ) (name : List ℕ) (view : View) (shot : Shot) (shots : List Shot) (events : List Event) (calls : List Asked) (told : Answer) → shots ≡ shot ∷ [] → IsViewed a viewer view shot events calls told d
+  view_plain : (viewer : ℕ) (name : List ℕ) (view : View) (shot : Shot) (shots : List Shot) (events : List Event) (calls : List Asked) (stores : List StoreCall) (told : Answer) → shots ≡ shot ∷ [] → IsViewed a viewer view shot events calls stores told d
       → LeadTo (shape_of a.cache) (state_of a.cache) events (state_of d.cache) → Steps (command.View name view) told shots
-  view_plain viewer name view shot shots events calls (answer.Value x) one viewed led = absurd viewed
-  view_plain viewer name view shot shots events calls answer.Done one viewed led = absurd viewed
-  view_plain viewer name view shot shots events calls (answer.Fetched loaded held refused) one viewed led = absurd viewed
-  view_plain viewer name view shot shots events calls (answer.Frame painted) one viewed led =
+  view_plain viewer name view shot shots events calls stores (answer.Value x) one viewed led = absurd viewed
+  view_plain viewer name view shot shots events calls stores answer.Done one viewed led = absurd viewed
+  view_plain viewer name view shot shots events calls stores (answer.Fetched loaded held refused) one viewed led = absurd viewed
+  view_plain viewer name view shot shots events calls stores (answer.Frame painted) one viewed led =
       let calm : AreCalm events = subst AreCalm (sym viewed.events_are) (frame_calm viewer (levels_at a) view shot.picture viewed.frame.events viewed.frame.visited) in
       let painting : IsPainting levels view (notes_of view.strategy events) shot.picture =
       subst (λ l. IsPainting l view (notes_of view.strategy events) shot.picture) is (subst (λ (e : List Event). IsPainting (levels_at a) view (notes_of view.strategy e) shot.picture) (sym viewed.events_are) viewed.frame.painting) in
       let told : painted ≡ painted_of (wanted_level levels view) shot.picture = subst (λ l. painted ≡ painted_of (wanted_level l view) shot.picture) is viewed.told in
       let exists : HasLevel levels view = subst (λ l. HasLevel l view) is viewed.exists in
       (arrays, ((shot, one, plain_frame b a.cache levels view events arrays shape is same calm led.legal painted shot.picture few some exists viewed.filled painting told, refl), quiet_plain events (calm_unwritten events calm) led))
-  view_plain viewer name view shot shots events calls (answer.Refused refusal.Outside) one viewed led = (arrays, (refl, none_plain events viewed.no_events led))
-  view_plain viewer name view shot shots events calls (answer.Refused (refusal.TooLarge value)) one viewed led = absurd viewed
-  view_plain viewer name view shot shots events calls (answer.Refused (refusal.Acquire err)) one viewed led =
+  view_plain viewer name view shot shots events calls stores (answer.Refused refusal.Outside) one viewed led = (arrays, (refl, none_plain events viewed.no_events led))
+  view_plain viewer name view shot shots events calls stores (answer.Refused (refusal.TooLarge value)) one viewed led = absurd viewed
+  view_plain viewer name view shot shots events calls stores (answer.Refused (refusal.Acquire err)) one viewed led =
       let cut = viewed.cut in
       let calm : AreCalm events = subst AreCalm (sym viewed.events_are)
       (both_calm cut.events cut.piece (cut_calm viewer (levels_at a) view shot.picture cut.cell cut.events cut.visited) (refused_calm cut.cell err cut.piece cut.look)) in
@@ -140,7 +141,7 @@ module _ (b : Shape) (levels : List Level) (a d : Desk) (arrays : ℕ → ℕ �
   step_plain : (viewer : ℕ) (command : Command) (told : Answer) (t : Trace) → IsServed a viewer command told t d → LeadTo (shape_of a.cache) (state_of a.cache) t.events (state_of d.cache) → Steps command told t.shots
   step_plain viewer (command.Get level pos) told t served led = get_plain level pos told t.events t.shots served.0 led
   step_plain viewer (command.Set level pos x) told t served led = put_plain level pos x told t.events t.shots served.0 led
-  step_plain viewer (command.View name view) told t (shot, one, none, named, viewed) led = view_plain viewer name view shot t.shots t.events t.calls told one viewed led
+  step_plain viewer (command.View name view) told t (shot, one, none, named, viewed) led = view_plain viewer name view shot t.shots t.events t.calls t.stores told one viewed led
   step_plain viewer (command.Fetch count) told t (none, fetched) led =
       fetch_plain count t.shots told fetched.result fetched.told_is (quiet_plain t.events (calm_unwritten t.events (servings_calm a d t.servings t.events t.calls fetched.are)) led)
 

@@ -11,10 +11,10 @@ use Rattle.team_run.specs.Trace.{Trace, nothing, and_then}
 
 -- traces one after another, and none
 pub then_none : (t : Trace) → and_then t nothing ≡ t
-then_none t = rw (append-nil t.events, append-nil t.calls, append-nil t.shots, append-nil t.servings) refl
+then_none t = rw (append-nil t.events, append-nil t.calls, append-nil t.stores, append-nil t.shots, append-nil t.servings) refl
 
 pub then_joins : (t u v : Trace) → and_then (and_then t u) v ≡ and_then t (and_then u v)
-then_joins t u v = rw (append_assoc t.events u.events v.events, append_assoc t.calls u.calls v.calls, append_assoc t.shots u.shots v.shots, append_assoc t.servings u.servings v.servings) refl
+then_joins t u v = rw (append_assoc t.events u.events v.events, append_assoc t.calls u.calls v.calls, append_assoc t.stores u.stores v.stores, append_assoc t.shots u.shots v.shots, append_assoc t.servings u.servings v.servings) refl
 
 pub serves_on : (a b d : Desk) (commands more : List NumberedCommand) (replies further : List Reply) (t u : Trace)
     → ServesAll a commands replies t b → ServesAll b more further u d → ServesAll a (commands ++ more) (replies ++ further) (and_then t u) d
@@ -44,5 +44,5 @@ adds_one a b command told shots r s x y answers replied kept = record {
   trace = answers.trace;
   added = replied;
   kept = kept ∙ ap (λ l. x ++ l) answers.shots_are;
-  served = (b, answers.trace, nothing, sym (then_none answers.trace), record { phase = refl; actor = refl; call = refl; served = answers.served; leads = answers.leads }, (refl, refl));
+  served = (b, answers.trace, nothing, sym (then_none answers.trace), record { phase = refl; actor = refl; call = refl; served = answers.served; leads = answers.leads; called = answers.called }, (refl, refl));
 }

@@ -7,7 +7,7 @@ use Rattle.cell_grid.specs.Pyramid.{cells_of}
 use Rattle.fetch_queue.specs.Queue.{Queue, opening}
 use Rattle.sole_cache.specs.Cached.{Cached, handles_out}
 use Rattle.volatile_cell.specs.Asked.{Asked, AskedFrom}
-use Rattle.volatile_cell.specs.SoleEyes.{Leads, IsRefusal, IsQueueFor}
+use Rattle.volatile_cell.specs.SoleEyes.{Leads, EyesLead, IsRefusal, IsQueueFor}
 
 -- a cache, and the queue of the cells that are wanted of it
 pub record Desk : Type 0 where
@@ -23,6 +23,11 @@ levels_at d = d.cache.levels
 -- These events and these calls of the queue lead from one moment to another.
 pub record DeskLeads (old : Desk) (events : List Event) (calls : List Asked) (new : Desk) : Type 0 where
   pub cache : Leads old.cache events new.cache
+  pub queue : AskedFrom old.queue calls new.queue
+
+-- The same by steps of eyes over the cache, with their calls of the stores.
+pub record DeskFollows (old : Desk) (events : List Event) (calls : List Asked) (new : Desk) : Type 0 where
+  pub cache : EyesLead old.cache events new.cache
   pub queue : AskedFrom old.queue calls new.queue
 
 -- Why an acquire of a cell between two moments was refused.

@@ -1,5 +1,5 @@
 -- What a run of a script is: its commands carried out over one cache, which is shut then.
-use Rattle.std.specs.Prelude.{◌≡◌, ◌⊎◌, ℕ, ◌+◌, ◌/◌, ◌^◌, ◌<◌, ◌≤◌, max, min, Bool, true, false, List, ◌++◌, Result, Ok, Err}
+use Rattle.std.specs.Prelude.{◌≡◌, ◌⊎◌, ℕ, ◌+◌, ◌/◌, ◌^◌, ◌<◌, ◌≤◌, max, min, length, Bool, true, false, List, ◌++◌, Result, Ok, Err}
 use Rattle.std.specs.List.{count_by}
 use Rattle.std.specs.List.Sorted.{IsNonDecreasingBy, IsPermutation}
 use Rattle.arr_history.specs.declared.closed.Unsaved.{Unsaved}
@@ -19,9 +19,12 @@ use Rattle.run_report.specs.declared.report.Report.{Report}
 use Rattle.sole_cache.specs.Cached.{Cached, shape_of, state_of}
 use Rattle.sole_cache.specs.Moves.{IsStoodFor, Moves}
 use Rattle.sole_cache.specs.Open.{IsOpened}
+use Rattle.sole_cache.specs.Puts.{ArePut}
+use Rattle.sole_cache.specs.Valid.{IsCache}
 use Rattle.fetchers.specs.declared.served.Served.{Served}
 use Rattle.fetchers.specs.declared.served.Served.TheVariants as served
 use Rattle.sole_cache.specs.Shut.{AreClosed, Licenses, failed_puts}
+use Rattle.store_calls.specs.Calls.{StoreCall, AreCalled}
 use Rattle.team_run.specs.declared.ran.RunErr.{RunErr}
 use Rattle.team_run.specs.declared.ran.RunErr.TheVariants.{Memory, Slots}
 use Rattle.team_run.specs.Plain.{ArePlain, AreSame}
@@ -71,7 +74,7 @@ pub record Completes (first : Desk) (commands : List NumberedCommand) (after : L
   pub last : Desk
   pub shut : Cached
   pub ends : shut.shown ≡ after
-  -- what the commands left: each its events, its calls of the queue and its shots; the queue has one history, which is those calls
+  -- what the commands left: each its events, its calls of the queue and of the stores, and its shots; the queue has one history, which is those calls
   pub trace : Trace
   pub served : ServesAll first commands report.replies trace last
   pub queue : AskedFrom first.queue trace.calls last.queue
@@ -81,6 +84,11 @@ pub record Completes (first : Desk) (commands : List NumberedCommand) (after : L
   pub history : Moves first.cache (trace.events ++ closing) shut
   pub unsaved : List Unsaved
   pub closed : AreClosed last.cache.slots unsaved closing
+  -- the stores have one history too: the calls of the commands, and the puts of the shutting
+  pub closing_calls : List StoreCall
+  pub called : AreCalled (trace.stores ++ closing_calls) first.cache.shown after
+  pub puts : ArePut last.cache.levels (length last.cache.shown) last.cache.slots unsaved closing_calls
+  pub valid : IsCache last.cache
   -- the counts and the unsaved cells that are reported are those of this history
   pub counts : report.tally ≡ tally_of trace.events closing
   pub named : IsPermutation unsaved report.unsaved

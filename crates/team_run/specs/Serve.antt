@@ -10,8 +10,10 @@ use Rattle.run_report.specs.declared.reply.Refusal.{Refusal}
 use Rattle.run_report.specs.declared.reply.Refusal.TheVariants as refusal
 use Rattle.run_report.specs.declared.reply.Reply.{Reply}
 use Rattle.run_report.specs.declared.shot.Shot.{Shot}
+use Rattle.sole_cache.specs.Acquires.{GetsVoxel, SetsVoxel}
 use Rattle.sole_cache.specs.Cached.{Cached}
 use Rattle.sole_cache.specs.Pieces.{IsGet, IsSet, IsCellCaused}
+use Rattle.store_calls.specs.Calls.{StoreCall, AreCalled}
 use Rattle.view_script.specs.declared.command.Command.{Command}
 use Rattle.view_script.specs.declared.command.Command.TheVariants as command
 use Rattle.view_script.specs.Script.{NumberedCommand}
@@ -43,19 +45,31 @@ IsPut old level pos x answer.Done events new = IsSet old level pos x (outcome.Ok
 IsPut old level pos x (answer.Refused refusal) events new = IsSet old level pos x (outcome.Err (cell_err_of refusal)) events × IsCellCaused {X = ℕ} old new level pos (outcome.Err (cell_err_of refusal))
 IsPut old level pos x other events new = ⊥
 
+-- The calls of the stores of a get or a set, by its answer.
+abbrev pub AsksGet : Cached → ℕ → List ℕ → Answer → List StoreCall → Cached → Type 0
+AsksGet old level pos (answer.Value x) stores new = GetsVoxel old level pos (outcome.Ok x) stores new
+AsksGet old level pos (answer.Refused refusal) stores new = GetsVoxel old level pos (outcome.Err (cell_err_of refusal)) stores new
+AsksGet old level pos other stores new = ⊥
+
+abbrev pub AsksSet : Cached → ℕ → List ℕ → ℕ → Answer → List StoreCall → Cached → Type 0
+AsksSet old level pos x answer.Done stores new = SetsVoxel old level pos x (outcome.Ok (tt {0})) stores new
+AsksSet old level pos x (answer.Refused refusal) stores new = SetsVoxel old level pos x (outcome.Err (cell_err_of refusal)) stores new
+AsksSet old level pos x other stores new = ⊥
+
 -- What a command of a viewer does, by its answer. A view leaves one shot, under its name.
 abbrev pub IsServed : Desk → ℕ → Command → Answer → Trace → Desk → Type 0
-IsServed old viewer (command.Get level pos) told t new = IsGot old.cache level pos told t.events new.cache × IsOfEvents t
-IsServed old viewer (command.Set level pos x) told t new = IsPut old.cache level pos x told t.events new.cache × IsOfEvents t
-IsServed old viewer (command.View name view) told t new = (shot : Shot) × (t.shots ≡ shot ∷ []) × (t.servings ≡ []) × (shot.name ≡ name) × IsViewed old viewer view shot t.events t.calls told new
-IsServed old viewer (command.Fetch count) told t new = (t.shots ≡ []) × IsFetched old count told t.servings t.events t.calls new
+IsServed old viewer (command.Get level pos) told t new = IsGot old.cache level pos told t.events new.cache × AsksGet old.cache level pos told t.stores new.cache × IsOfEvents t
+IsServed old viewer (command.Set level pos x) told t new = IsPut old.cache level pos x told t.events new.cache × AsksSet old.cache level pos x told t.stores new.cache × IsOfEvents t
+IsServed old viewer (command.View name view) told t new = (shot : Shot) × (t.shots ≡ shot ∷ []) × (t.servings ≡ []) × (shot.name ≡ name) × IsViewed old viewer view shot t.events t.calls t.stores told new
+IsServed old viewer (command.Fetch count) told t new = (t.shots ≡ []) × IsFetched old count told t.servings t.events t.calls t.stores new
 
--- A command of a viewer was carried out with this answer: its events and its calls of the queue lead from one moment to another.
+-- A command of a viewer was carried out with this answer: its events and its calls of the queue and of the stores lead from one moment to another.
 pub record Answers (old : Desk) (viewer : ℕ) (command : Command) (told : Answer) (shots : List Shot) (new : Desk) : Type 0 where
   pub trace : Trace
   pub shots_are : shots ≡ trace.shots
   pub served : IsServed old viewer command told trace new
   pub leads : DeskLeads old trace.events trace.calls new
+  pub called : AreCalled trace.stores old.cache.shown new.cache.shown
 
 -- The same of a command with its numbers, which are those of its reply. Its viewer is its actor.
 pub record Serves (old : Desk) (command : NumberedCommand) (reply : Reply) (trace : Trace) (new : Desk) : Type 0 where
@@ -64,6 +78,7 @@ pub record Serves (old : Desk) (command : NumberedCommand) (reply : Reply) (trac
   pub call : reply.call ≡ command.call
   pub served : IsServed old command.actor command.command reply.answer trace new
   pub leads : DeskLeads old trace.events trace.calls new
+  pub called : AreCalled trace.stores old.cache.shown new.cache.shown
 
 -- Commands were carried out one after another: each once, in order, each with its reply.
 abbrev pub ServesAll : Desk → List NumberedCommand → List Reply → Trace → Desk → Type 0

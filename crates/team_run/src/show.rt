@@ -7,7 +7,7 @@ ghost use Rattle.scale_pick.specs.Painted.{painted_of, IsComplete};
 ghost use Rattle.scale_pick.specs.Picture.{IsFilled};
 ghost use Rattle.scale_pick.specs.Wanted.{wanted_level};
 ghost use Rattle.sole_cache.specs.Value.{by};
-ghost use Rattle.team_run.specs.Desk.{IsReady, DeskLeads, IsDeskRefusal, desk, levels_at};
+ghost use Rattle.team_run.specs.Desk.{IsReady, DeskFollows, IsDeskRefusal, desk, levels_at};
 ghost use Rattle.team_run.specs.Serve.{Answers};
 ghost use Rattle.team_run.specs.Task.{HasSides};
 ghost use Rattle.team_run.specs.Views.{HasLevel, LacksLevel};
@@ -93,8 +93,8 @@ fn frame<S: Store>(
     ensures filled { IsFilled picture.new }
     ensures painted { IfOk result (λ painted. painted ≡ painted_of (wanted_level cache.old.levels view.now) picture.new) }
     ensures blocking { view.now.strategy ≡ Blocking → OnOk result (IsComplete (wanted_level cache.old.levels view.now) picture.new) }
-    ensures frame { OnOk result (IsFrame DeskLeads levels_at (λ _. 0) (λ _. viewer) (desk (by S.contents cache.old) queue.old) (desk (by S.contents cache.new) queue.new) view.now picture.new) }
-    ensures cut_off { IfErr result (λ err. IsCutOff DeskLeads levels_at (λ _. 0) (λ _. viewer) IsDeskRefusal (desk (by S.contents cache.old) queue.old) (desk (by S.contents cache.new) queue.new) view.now picture.new err) }
+    ensures frame { OnOk result (IsFrame DeskFollows levels_at (λ _. 0) (λ _. viewer) (desk (by S.contents cache.old) queue.old) (desk (by S.contents cache.new) queue.new) view.now picture.new) }
+    ensures cut_off { IfErr result (λ err. IsCutOff DeskFollows levels_at (λ _. 0) (λ _. viewer) IsDeskRefusal (desk (by S.contents cache.old) queue.old) (desk (by S.contents cache.new) queue.new) view.now picture.new err) }
     ensures ready { IsReady (desk (by S.contents cache.new) queue.new) }
 {
     let mut eyes = SoleEyes::new(cache, queue, viewer);

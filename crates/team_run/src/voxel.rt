@@ -4,7 +4,8 @@ ghost use Rattle.arr_history.specs.declared.event.Event.{Event};
 ghost use Rattle.sole_cache.specs.Cached.{handles_out};
 ghost use Rattle.sole_cache.specs.Moves.{Runs};
 ghost use Rattle.sole_cache.specs.Value.{by};
-ghost use Rattle.team_run.specs.Serve.{refusal_in, IsGot, IsPut};
+ghost use Rattle.store_calls.specs.Calls.{StoreCall};
+ghost use Rattle.team_run.specs.Serve.{refusal_in, AsksGet, AsksSet, IsGot, IsPut};
 
 use cell_file::CellErr;
 use cell_store::Store;
@@ -15,6 +16,7 @@ use sole_cache::SoleCache;
 pub fn get<S: Store>(cache: &mut SoleCache<S>, level: u8, pos: [u64; 3]) -> Answer
     requires room { handles_out (by S.contents cache.old) < 64 }
     ensures got { (events : List Event) × IsGot (by S.contents cache.old) level pos result events (by S.contents cache.new) × Runs (by S.contents cache.old) events (by S.contents cache.new) }
+    ensures asks { (stores : List StoreCall) × AsksGet (by S.contents cache.old) level pos result stores (by S.contents cache.new) }
     ensures handles { handles_out (by S.contents cache.new) ≡ handles_out (by S.contents cache.old) }
 {
     match cache.get(level, pos) {
@@ -27,6 +29,7 @@ pub fn get<S: Store>(cache: &mut SoleCache<S>, level: u8, pos: [u64; 3]) -> Answ
 pub fn set<S: Store>(cache: &mut SoleCache<S>, level: u8, pos: [u64; 3], value: u64) -> Answer
     requires room { handles_out (by S.contents cache.old) < 64 }
     ensures put { (events : List Event) × IsPut (by S.contents cache.old) level pos value result events (by S.contents cache.new) × Runs (by S.contents cache.old) events (by S.contents cache.new) }
+    ensures asks { (stores : List StoreCall) × AsksSet (by S.contents cache.old) level pos value result stores (by S.contents cache.new) }
     ensures handles { handles_out (by S.contents cache.new) ≡ handles_out (by S.contents cache.old) }
 {
     match cache.set(level, pos, value) {

@@ -4,6 +4,7 @@ use Rattle.cell_grid.specs.declared.level.Level.{Level}
 use Rattle.cell_grid.specs.Pyramid.{cells_of}
 use Rattle.cell_file.specs.declared.errors.AcquireErr.{AcquireErr}
 use Rattle.cell_file.specs.declared.errors.AcquireErr.TheVariants as refusal
+use Rattle.store_calls.specs.Calls.{StoreCall}
 use Rattle.arr_history.specs.declared.event.Event.{Event}
 use Rattle.arr_history.specs.Tally.{IsTally, raised}
 use Rattle.fetch_queue.specs.Queue.{Queue}
@@ -11,16 +12,27 @@ use Rattle.sole_cache.specs.Cached.{Cached}
 use Rattle.sole_cache.specs.Room.{IsFull}
 use Rattle.sole_cache.specs.Moves.{Moves}
 use Rattle.sole_cache.specs.Pieces.{IsCaused}
+use Rattle.sole_cache.specs.Acquires.{Acquires}
+use Rattle.volatile_cell.specs.Steps.{Follows}
 
 -- These events, all of the run part, lead from one cache to another. A tally that fits 64 bits is raised by their counts.
 pub record Leads (old : Cached) (events : List Event) (new : Cached) : Type 0 where
   pub moves : Moves old events new
   pub tally : IsTally old.tally → new.tally ≡ raised old.tally events []
 
--- Why an acquire of a cell was refused: its cause, and every slot had a pin where it is that.
+-- The same by steps of eyes, with their calls of the stores.
+pub record EyesLead (old : Cached) (events : List Event) (new : Cached) : Type 0 where
+  pub leads : Leads old events new
+  pub calls : List StoreCall
+  pub follows : Follows old events calls new
+
+-- Why an acquire of a cell was refused: its cause, and every slot had a pin where it is that; with its events and its calls of the stores.
 pub record IsRefusal (old new : Cached) (cell : ℕ) (err : AcquireErr) : Type 0 where
   pub caused : IsCaused old new cell (Err err)
   pub full : err ≡ refusal.Full → IsFull old
+  pub events : List Event
+  pub calls : List StoreCall
+  pub acquires : Acquires old cell (Err err) events calls new
 
 -- A queue is for the cells of a pyramid, with one priority for each level.
 pub record IsQueueFor (q : Queue) (levels : List Level) : Type 0 where

@@ -1,5 +1,6 @@
 -- The laws of what leads from one cache, and from one queue, to another.
-use Rattle.std.proofs.Common.{◌∙◌, List, [], ◌∷◌, ◌++◌, refl, sym, ap, subst}
+use Rattle.std.proofs.Common.{◌∙◌, ℕ, zero, suc, List, [], ◌∷◌, ◌++◌, refl, sym, ap, subst, append_assoc}
+use Rattle.store_calls.specs.Calls.{StoreCall}
 use Rattle.arr_history.specs.declared.event.Event.{Event}
 use Rattle.arr_history.specs.Tally.{IsTally, raised, AreUncounted}
 use Rattle.arr_history.proofs.Counts.{raised_more, raised_none, raised_fits}
@@ -7,7 +8,8 @@ use Rattle.fetch_queue.specs.Queue.{Queue}
 use Rattle.sole_cache.specs.Cached.{Cached}
 use Rattle.sole_cache.proofs.Composed.{moves_on, moves_none}
 use Rattle.volatile_cell.specs.Asked.{Asked, after_call, AskedFrom}
-use Rattle.volatile_cell.specs.SoleEyes.{Leads}
+use Rattle.volatile_cell.specs.SoleEyes.{Leads, EyesLead}
+use Rattle.volatile_cell.specs.Steps.{AreSteps, Follows}
 
 uncounted : AreUncounted []
 uncounted = record { hits = refl; misses = refl; loads = refl; evictions = refl; writebacks = refl }
@@ -24,6 +26,34 @@ leads_after a b c p q l m = record {
       let first = l.tally fits in
       let then_fits : IsTally b.tally = subst IsTally (sym first) (raised_fits a.tally p []) in
       m.tally then_fits ∙ ap (λ t. raised t q []) first ∙ raised_more a.tally p q;
+}
+
+steps_after : (m : ℕ) (a b c : Cached) (p q : List Event) (u v : List StoreCall) → AreSteps m a p u b → Follows b q v c → Follows a (p ++ q) (u ++ v) c
+steps_after zero a b c p q u v (same, none, silent) more =
+    subst (λ e. Follows a (e ++ q) (u ++ v) c) (sym none) (subst (λ w. Follows a q (w ++ v) c) (sym silent) (subst (λ d. Follows d q v c) same more))
+steps_after (suc m) a b c p q u v (mid, first, rest, asked, others, step, steps, split, asks) more =
+    let then = steps_after m mid b c rest q others v steps more in
+    record {
+      count = suc then.count;
+      steps = (mid, first, rest ++ q, asked, others ++ v, step, then.steps, ap (λ e. e ++ q) split ∙ append_assoc first rest q, ap (λ w. w ++ v) asks ∙ append_assoc asked others v);
+    }
+
+-- no step leads from a cache to itself, and steps follow on from where others led
+pub follows_nowhere : (c : Cached) → Follows c [] [] c
+follows_nowhere c = record { count = 0; steps = (refl, refl, refl) }
+
+pub follows_after : (a b c : Cached) (p q : List Event) (u v : List StoreCall) → Follows a p u b → Follows b q v c → Follows a (p ++ q) (u ++ v) c
+follows_after a b c p q u v first more = steps_after first.count a b c p q u v first.steps more
+
+-- the same of eyes
+pub eyes_nowhere : (c : Cached) → EyesLead c [] c
+eyes_nowhere c = record { leads = leads_nowhere c; calls = []; follows = follows_nowhere c }
+
+pub eyes_after : (a b c : Cached) (p q : List Event) → EyesLead a p b → EyesLead b q c → EyesLead a (p ++ q) c
+eyes_after a b c p q l m = record {
+  leads = leads_after a b c p q l.leads m.leads;
+  calls = l.calls ++ m.calls;
+  follows = follows_after a b c p q l.calls m.calls l.follows m.follows;
 }
 
 -- calls that lead on from where others led

@@ -57,8 +57,8 @@ impl<'a, S: Store> Eyes for SoleEyes<'a, S> {
     ghost use Rattle.sole_cache.specs.Value.{by};
     ghost use Rattle.sole_cache.specs.Handle.{IsHandleOf};
     ghost use Rattle.volatile_cell.specs.Asked.{AskedFrom};
-    ghost use Rattle.volatile_cell.specs.SoleEyes.{Leads, IsRefusal};
-    ghost use Rattle.volatile_cell.specs.SoleLaws.{leads_nowhere, leads_after, asked_after};
+    ghost use Rattle.volatile_cell.specs.SoleEyes.{EyesLead, IsRefusal};
+    ghost use Rattle.volatile_cell.specs.SoleLaws.{eyes_nowhere, eyes_after, asked_after};
 
     ghost levels = { λ e. e.cache.now.levels };
 
@@ -74,15 +74,15 @@ impl<'a, S: Store> Eyes for SoleEyes<'a, S> {
 
     ghost is_loaded = { λ h. h.loaded };
 
-    ghost leads = { λ a p u b. (a.cache.ghost_name ≡ b.cache.ghost_name) × (a.queue.ghost_name ≡ b.queue.ghost_name) × (a.viewer ≡ b.viewer) × Leads (by S.contents a.cache.now) p (by S.contents b.cache.now) × AskedFrom a.queue.now u b.queue.now };
+    ghost leads = { λ a p u b. (a.cache.ghost_name ≡ b.cache.ghost_name) × (a.queue.ghost_name ≡ b.queue.ghost_name) × (a.viewer ≡ b.viewer) × EyesLead (by S.contents a.cache.now) p (by S.contents b.cache.now) × AskedFrom a.queue.now u b.queue.now };
 
     ghost caused = { λ a b cell err. IsRefusal (by S.contents a.cache.now) (by S.contents b.cache.now) cell err };
 
-    ghost stays = { λ e. (refl, refl, refl, leads_nowhere (by S.contents e.cache.now), refl) };
+    ghost stays = { λ e. (refl, refl, refl, eyes_nowhere (by S.contents e.cache.now), refl) };
 
-    ghost leads_on = { λ a b c p q u v g h. (g.0 ∙ h.0, g.1 ∙ h.1, g.2 ∙ h.2, leads_after (by S.contents a.cache.now) (by S.contents b.cache.now) (by S.contents c.cache.now) p q g.3 h.3, asked_after a.queue.now b.queue.now c.queue.now u v g.4 h.4) };
+    ghost leads_on = { λ a b c p q u v g h. (g.0 ∙ h.0, g.1 ∙ h.1, g.2 ∙ h.2, eyes_after (by S.contents a.cache.now) (by S.contents b.cache.now) (by S.contents c.cache.now) p q g.3 h.3, asked_after a.queue.now b.queue.now c.queue.now u v g.4 h.4) };
 
-    ghost same_levels = { λ a b p u g. sym g.3.moves.levels };
+    ghost same_levels = { λ a b p u g. sym g.3.leads.moves.levels };
 
     ghost same_number = { λ a b p u g. refl };
 

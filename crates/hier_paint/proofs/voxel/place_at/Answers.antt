@@ -1,9 +1,5 @@
 use Rattle.cell_grid.proofs.OneToOne.{cell_in_range, offset_in_range}
-use Rattle.hier_paint.proofs.Coordinates.{none_without}
 use Rattle.hier_paint.proofs.voxel.place_at.Goals as goal
-
-pub returns-in-None-clause-outside : goal.returns-in-None-clause-outside
-returns-in-None-clause-outside g c = λ shape exists. none_without c.place-in-None.result _ _ c.place-in-None.ensures.exists (λ unplaced w. unplaced (shape, exists, w))
 
 pub returns-in-Some-clause-cell : goal.returns-in-Some-clause-cell
 returns-in-Some-clause-cell g c = cell_in_range c.args.geometry.now c.args.level c.args.voxel c.in-Some.place.cell c.in-Some.place.at (c.in-Some.ensures c.args.geometry.now c.requires)

@@ -1,8 +1,15 @@
 use Rattle.std.proofs.Common.{refl}
-use Rattle.volatile_cell.proofs.Looking.{acquired, leads_by_run}
+use Rattle.sole_cache.proofs.Pieces.{piece_of}
+use Rattle.volatile_cell.proofs.Following.{eyes_acquire, refused_by}
+use Rattle.volatile_cell.proofs.Looking.{acquired}
 use Rattle.volatile_cell.proofs.sole_eyes.SoleEyesEyes.acquire.Goals as goal
 
 pub returns-clause-acquired : goal.returns-clause-acquired
 returns-clause-acquired g c =
-    let done = c.acquire.ensures.events in
-    (done.0, (refl, refl, refl, leads_by_run _ _ done.0 done.1.1, refl), acquired _ c.args.cell c.acquire.result done.0 done.1.0)
+    let done = c.acquire.ensures.acquires in
+    (done.0, (refl, refl, refl, eyes_acquire _ _ c.args.cell c.acquire.result done.0 done.1 done.2, refl), acquired _ c.args.cell c.acquire.result done.0 (piece_of _ c.args.cell c.acquire.result done.0 done.1 done.2.is))
+
+pub returns-clause-caused : goal.returns-clause-caused
+returns-clause-caused g c =
+    let done = c.acquire.ensures.acquires in
+    refused_by _ _ c.args.cell c.acquire.result done.0 done.1 c.acquire.ensures.caused done.2
