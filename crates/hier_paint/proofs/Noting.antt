@@ -136,8 +136,8 @@ unnoted-load p k c slot turn w (inr o) = subst (λ (t : List Event). IsUnnoted p
 
 -- what gives a handle notes nothing, where a miss isn't noted yet
 granted-unnoted : (p : Option ℕ) (k c : ℕ) (loaded : Bool) (events : List Event) → Waits p → IsGranted k c loaded events → IsUnnoted p (after_load p loaded) (cond loaded 1 0) events
-granted-unnoted p k c false events w g = subst (IsUnnoted p (after_load p false) 0) (sym g.1) (unnoted-misses p _ 0 k c g.0 _ w (unnoted-pin p k c w))
-granted-unnoted p k c true events w g = subst (IsUnnoted p (after_load p true) 1) (sym g.4) (unnoted-misses p _ 1 k c (suc g.0) _ w (unnoted-load p k c g.1 g.2 w g.3))
+granted-unnoted p k c false events w g = subst (IsUnnoted p (after_load p false) 0) (sym g.2) (unnoted-misses p _ 0 k c g.0 _ w (unnoted-pin p k c w))
+granted-unnoted p k c true events w g = subst (IsUnnoted p (after_load p true) 1) (sym g.5) (unnoted-misses p _ 1 k c (suc g.0) _ w (unnoted-load p k c g.2 g.3 w g.4))
 
 some_left : (l : ℕ) → nat_lt 0 (suc l) ≡ true
 some_left l = grind (arith, nat_tests)

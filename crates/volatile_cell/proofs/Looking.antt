@@ -1,5 +1,5 @@
 -- The events of a cache's calls.
-use Rattle.std.proofs.Common.{◌≡◌, ◌∙◌, ◌⊎◌, inl, inr, ℕ, ◌-◌, ◌≢◌, ◌==◌, Bool, true, false, cond, List, [], ◌∷◌, Option, None, Some, Result, sym, ap, subst, arith}
+use Rattle.std.proofs.Common.{◌≡◌, ◌∙◌, ◌⊎◌, inl, inr, ℕ, ◌-◌, ◌≢◌, ◌==◌, Bool, true, false, cond, List, [], ◌∷◌, Option, None, Some, Result, refl, sym, ap, subst, arith}
 use Rattle.std.specs.declared.result.Result.TheVariants.{Ok, Err}
 use Rattle.std.specs.Bool.{MatchBool}
 use Rattle.std.proofs.lemmas.Bool.Decides.{nat_tests}
@@ -24,14 +24,14 @@ turn_of c slot turn (inr out) = inr (out.0, (slot_at c slot).marked, out.1.1)
 
 -- what gave a handle
 pub granted : (c : Cached) (cell : ℕ) (h : Handle) (events : List Event) → piece.IsHit c cell h events ⊎ piece.IsLoad c cell h events → IsGranted 0 cell h.loaded events
-granted c cell h events (inl hit) = subst (λ b. IsGranted 0 cell b events) (sym hit.found) (0, hit.events_are)
-granted c cell h events (inr load) = subst (λ b. IsGranted 0 cell b events) (sym load.loaded) (0, h.slot, load.turn, turn_of c h.slot load.turn load.room, load.events_are)
+granted c cell h events (inl hit) = subst (λ b. IsGranted 0 cell b events) (sym hit.found) (0, λ _. refl, hit.events_are)
+granted c cell h events (inr load) = subst (λ b. IsGranted 0 cell b events) (sym load.loaded) (0, λ _. refl, h.slot, load.turn, turn_of c h.slot load.turn load.room, load.events_are)
 
 dropped : (c : Cached) (cell : ℕ) (events : List Event) → piece.IsDropped c cell events → IsDropped 0 cell events
-dropped c cell events d = (0, d.turn, turn_of c d.slot d.turn d.room, d.events_are)
+dropped c cell events d = (0, λ _. refl, d.turn, turn_of c d.slot d.turn d.room, d.events_are)
 
 held_up : (c : Cached) (cell : ℕ) (events : List Event) → piece.IsHeldUp c cell events → IsHeldUp 0 cell events
-held_up c cell events d = (0, d.due, d.events_are)
+held_up c cell events d = (0, λ _. refl, d.due, d.events_are)
 
 -- what gave none
 pub refused : (c : Cached) (cell : ℕ) (err : AcquireErr) (events : List Event) → piece.IsPiece c cell (Err err) events → IsRefused 0 cell err events

@@ -16,16 +16,16 @@ IsTurnOut k events = (events ≡ []) ⊎ ((v : ℕ) × (saved : Bool) × (events
 
 -- A cell is pinned, where it is live; or it is loaded, after at least one miss.
 abbrev pub IsGranted : ℕ → ℕ → Bool → List Event → Type 0
-IsGranted k cell false events = (n : ℕ) × (events ≡ misses k cell n ++ Pin k cell ∷ [])
-IsGranted k cell true events = (n : ℕ) × (slot : ℕ) × (turn : List Event) × IsTurnOut k turn × (events ≡ misses k cell (suc n) ++ (Claim k cell ∷ (turn ++ Live k cell slot ∷ [])))
+IsGranted k cell false events = (n : ℕ) × (k ≡ 0 → n ≡ 0) × (events ≡ misses k cell n ++ Pin k cell ∷ [])
+IsGranted k cell true events = (n : ℕ) × (k ≡ 0 → n ≡ 0) × (slot : ℕ) × (turn : List Event) × IsTurnOut k turn × (events ≡ misses k cell (suc n) ++ (Claim k cell ∷ (turn ++ Live k cell slot ∷ [])))
 
 -- the claim is dropped, since the cell could not be got
 abbrev pub IsDropped : ℕ → ℕ → List Event → Type 0
-IsDropped k cell events = (n : ℕ) × (turn : List Event) × IsTurnOut k turn × (events ≡ misses k cell (suc n) ++ (Claim k cell ∷ (turn ++ Drop k cell ∷ [])))
+IsDropped k cell events = (n : ℕ) × (k ≡ 0 → n ≡ 0) × (turn : List Event) × IsTurnOut k turn × (events ≡ misses k cell (suc n) ++ (Claim k cell ∷ (turn ++ Drop k cell ∷ [])))
 
 -- the claim is dropped, since the cell that was to leave could not be put and came back
 abbrev pub IsHeldUp : ℕ → ℕ → List Event → Type 0
-IsHeldUp k cell events = (n : ℕ) × (v : ℕ) × (events ≡ misses k cell (suc n) ++ (Claim k cell ∷ Close k v ∷ Back k v ∷ Drop k cell ∷ []))
+IsHeldUp k cell events = (n : ℕ) × (k ≡ 0 → n ≡ 0) × (v : ℕ) × (events ≡ misses k cell (suc n) ++ (Claim k cell ∷ Close k v ∷ Back k v ∷ Drop k cell ∷ []))
 
 -- A cell isn't acquired, for this cause.
 abbrev pub IsRefused : ℕ → ℕ → AcquireErr → List Event → Type 0
