@@ -44,7 +44,7 @@ record IsLoading (c : Cached) (events : List Event) (calls : List StoreCall) (d 
   acquires : Acquires c cell result (Miss 0 cell ∷ Claim 0 cell ∷ rest) calls d
 
 last_ended : (e : Event) → is_end e ≡ true → IsEnded (e ∷ [])
-last_ended e end = let none : [] ≡ [] = refl {A = List Event} in subst (λ t. MatchBool t ([] ≡ []) ⊥) (sym end) none
+last_ended e end = let nothing : List Event = [] in subst (λ t. MatchBool t (nothing ≡ []) ⊥) (sym end) refl
 
 -- after the turn of another cell the end comes
 room_ended : (c : Cached) (slot : ℕ) (turn : List Event) (calls : List StoreCall) (e : Event) → is_end e ≡ true → MakesRoom c slot turn calls → IsEnded (turn ++ e ∷ [])
