@@ -4,3 +4,6 @@ pub mod Tandem
 pub mod Getting
 pub mod Visiting
 pub mod Ways
+pub mod Spots
+pub mod Going
+pub mod Framing
