@@ -30,6 +30,7 @@ AreSameAt picture other (s ∷ rest) = (value_at other s ≡ value_at picture s)
 pub record Outcome (z : Ends) (picture other : Pixels) (cut fate : Option Refused) (rest : List Spot) (e f : List Event) : Type 0 where
   pub same_events : f ≡ e
   pub same_end : fate ≡ cut
+  pub levels : z.first.levels ≡ z.levels
   pub alike : AreAlike z.first z.second
   pub fail : FailAlike z.left z.other
   pub same : cut ≡ None → AreSameAt picture other rest
@@ -65,7 +66,7 @@ module _ (laws : AlikeLaws) (z : Ends) (viewer : ℕ) (view : View) (picture oth
 
   -- one more pixel that is the same
   one_pixel : (spot : Spot) (rest : List Spot) (e f p q : List Event) → value_at other spot ≡ value_at picture spot → mask_at other spot ≡ mask_at picture spot → Result rest e f → q ++ f ≡ p ++ e → Result (spot ∷ rest) (p ++ e) (q ++ f)
-  one_pixel spot rest e f p q value mask r joined = record { same_events = joined; same_end = r.same_end; alike = r.alike; fail = r.fail; same = λ none. (value, mask, r.same none) }
+  one_pixel spot rest e f p q value mask r joined = record { same_events = joined; same_end = r.same_end; levels = r.levels; alike = r.alike; fail = r.fail; same = λ none. (value, mask, r.same none) }
 
   due_at : (s : Sight) (level cell cell' : ℕ) → cell ≡ cell' → cut ≡ Some (record { level = level; cell = cell' }) → IsFate z.first z.left s cut
       → IsLookedFor s level cell × (loads_by s.budget.strategy s.budget.left ≡ true) × Refuses z.first cell z.left
@@ -130,6 +131,7 @@ module _ (laws : AlikeLaws) (z : Ends) (viewer : ℕ) (view : View) (picture oth
       record {
         same_events = end.same;
         same_end = is' ∙ ap (λ n. Some (record { level = level; cell = n })) (sym place.0) ∙ sym is;
+        levels = end.levels;
         alike = end.alike;
         fail = end.fail;
         same = λ none. absurd (none_some cut (record { level = level; cell = cell }) is none);
@@ -218,7 +220,7 @@ module _ (laws : AlikeLaws) (z : Ends) (viewer : ℕ) (view : View) (picture oth
       let on = both_missed laws z viewer c d s a.then b.then level cell a.first b.first a.rest b.rest a.asked b.asked
             (is_calm_ahead viewer z.levels z.first z.left cut a.then more a.rest a.going) (is_calm_ahead viewer z.levels z.second z.other fate b.then more' b.rest b.going) a.visit b.visit (subst₂ (Tandem z c d) a.is b.is t) in
       let r = at_level spot rest go_alike (suc level) n m on.2.c on.2.d a.then more more' a.rest b.rest after after' a.going (subst (λ (u : Sight). Second u more' b.rest) on.0 b.going) on.2.pair in
-      record { same_events = b.is ∙ ap₂ (λ (m n : List Event). m ++ n) on.1 r.same_events ∙ sym a.is; same_end = r.same_end; alike = r.alike; fail = r.fail; same = r.same }
+      record { same_events = b.is ∙ ap₂ (λ (m n : List Event). m ++ n) on.1 r.same_events ∙ sym a.is; same_end = r.same_end; levels = r.levels; alike = r.alike; fail = r.fail; same = r.same }
 
   -- the frames, from some pixels on
   pub frames_alike : (rest : List Spot) → GoAlike rest
@@ -226,5 +228,5 @@ module _ (laws : AlikeLaws) (z : Ends) (viewer : ℕ) (view : View) (picture oth
       let a = at_end viewer z.levels z.first z.left cut s e (subst (λ (u : List Visit). First s u e) h.0 going) in
       let b = at_end viewer z.levels z.second z.other fate s f (subst (λ (u : List Visit). Second s u f) g.0 going') in
       let end = both_end laws z c d s.held e f a.0 b.0 t in
-      record { same_events = end.same; same_end = g.1 ∙ sym h.1; alike = end.alike; fail = end.fail; same = λ none. tt }
+      record { same_events = end.same; same_end = g.1 ∙ sym h.1; levels = end.levels; alike = end.alike; fail = end.fail; same = λ none. tt }
   frames_alike (spot ∷ rest) c d s v w e f (n, h) (m, g) going going' t = at_level spot rest (frames_alike rest) (wanted_level z.levels view) n m c d s v w e f h g going going' t

@@ -65,6 +65,7 @@ module _ (viewer : ℕ) (levels : List Level) (end : Cached) (left : List StoreC
 -- where two frames end
 pub record Ended (z : Ends) (e f : List Event) : Type 0 where
   pub same : f ≡ e
+  pub levels : z.first.levels ≡ z.levels
   pub alike : AreAlike z.first z.second
   pub fail : FailAlike z.left z.other
 
@@ -76,6 +77,7 @@ both_end laws z c d held e f e_is f_is t =
     let there = nothing_left on.d on.pair.others z.second on.pair.goes in
     record {
       same = f_is ∙ sym e_is;
+      levels = ap (λ (b : Cached). b.levels) here.0 ∙ on.pair.levels;
       alike = subst₂ AreAlike (sym here.0) (sym there.0) on.pair.alike;
       fail = subst₂ FailAlike (ap (λ (k : List StoreCall). k ++ z.left) here.1) (ap (λ (k : List StoreCall). k ++ z.other) there.1) on.pair.fail;
     }

@@ -7,3 +7,4 @@ pub mod Ways
 pub mod Spots
 pub mod Going
 pub mod Framing
+pub mod Closing
