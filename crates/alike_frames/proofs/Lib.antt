@@ -8,3 +8,6 @@ pub mod Spots
 pub mod Going
 pub mod Framing
 pub mod Closing
+pub mod Asking
+pub mod Serving
+pub mod Fetching
