@@ -1,0 +1,43 @@
+-- From caches that are alike, calls that ask the same and whose calls of the stores fail alike do the same, answer the same, and lead to caches
+-- that are alike.
+use Rattle.std.specs.Prelude.{◌≡◌, ℕ, ◌<◌, List, [], ◌∷◌, ◌++◌, Result}
+use Rattle.cell_grid.specs.Pyramid.{cells_of}
+use Rattle.cell_file.specs.declared.errors.AcquireErr.{AcquireErr}
+use Rattle.cell_file.specs.declared.errors.CellErr.{CellErr}
+use Rattle.store_calls.specs.Calls.{StoreCall, FailAlike}
+use Rattle.arr_history.specs.declared.cell_state.Seen.{Seen}
+use Rattle.arr_history.specs.declared.event.Event.{Event}
+use Rattle.arr_history.specs.declared.event.Event.TheVariants.{Read}
+use Rattle.sole_cache.specs.Cached.{Cached}
+use Rattle.sole_cache.specs.Handle.{Handle}
+use Rattle.sole_cache.specs.Acquires.{Acquires, Quiet, Looks, GetsVoxel, SetsVoxel}
+use Rattle.alike_frames.specs.Alike.{AreAlike}
+
+-- Acquires of a cell give the same answer, by the same events.
+abbrev pub AcquiresAreAlike : Type 0
+AcquiresAreAlike = (c d c' d' : Cached) (cell : ℕ) (r s : Result Handle AcquireErr) (e f : List Event) (k l m n : List StoreCall)
+    → AreAlike c d → cell < cells_of c.levels → Acquires c cell r e k c' → Acquires d cell s f l d' → FailAlike (k ++ m) (l ++ n)
+    → (s ≡ r) × (f ≡ e) × AreAlike c' d' × FailAlike m n
+
+-- So do looks for a cell.
+abbrev pub LooksAreAlike : Type 0
+LooksAreAlike = (c d c' d' : Cached) (cell : ℕ) (r s : Result Handle Seen) (e f : List Event) → AreAlike c d → Looks c cell r e c' → Looks d cell s f d' → (s ≡ r) × (f ≡ e) × AreAlike c' d'
+
+-- Reads of a voxel give the same number.
+abbrev pub ReadsAreAlike : Type 0
+ReadsAreAlike = (c d c' d' : Cached) (cell at x y : ℕ) → AreAlike c d → Quiet c (Read 0 cell at x ∷ []) c' → Quiet d (Read 0 cell at y ∷ []) d' → y ≡ x
+
+-- The same events lead on, where no store is asked.
+abbrev pub QuietIsAlike : Type 0
+QuietIsAlike = (c d c' d' : Cached) (events : List Event) → AreAlike c d → Quiet c events c' → Quiet d events d' → AreAlike c' d'
+
+-- Gets and sets of a voxel give the same answer.
+abbrev pub GetsAreAlike : Type 0
+GetsAreAlike = (c d c' d' : Cached) (level : ℕ) (pos : List ℕ) (r s : Result ℕ CellErr) (k l m n : List StoreCall)
+    → AreAlike c d → GetsVoxel c level pos r k c' → GetsVoxel d level pos s l d' → FailAlike (k ++ m) (l ++ n)
+    → (s ≡ r) × AreAlike c' d' × FailAlike m n
+
+abbrev pub SetsAreAlike : Type 0
+SetsAreAlike = (c d c' d' : Cached) (level : ℕ) (pos : List ℕ) (x : ℕ) (r s : Result (Unit {0}) CellErr) (k l m n : List StoreCall)
+    → AreAlike c d → SetsVoxel c level pos x r k c' → SetsVoxel d level pos x s l d' → FailAlike (k ++ m) (l ++ n)
+    → (s ≡ r) × AreAlike c' d' × FailAlike m n

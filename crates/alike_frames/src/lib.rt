@@ -1,0 +1,2 @@
+//! Laws of frames and servings over caches that are alike.
+#![tactic(auto)]
