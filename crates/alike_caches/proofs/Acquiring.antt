@@ -8,7 +8,10 @@ use Rattle.cell_grid.specs.Pyramid.{cells_of, lane_of}
 use Rattle.cell_store.specs.Store.{Contents}
 use Rattle.cell_store.specs.declared.store.Put.{Put}
 use Rattle.cell_store.specs.declared.store.Put.TheVariants as put
-use Rattle.store_calls.specs.Calls.{StoreCall, Putting, AreCalled, FailAlike, is_failed, wants_memory}
+use Rattle.store_calls.specs.Calls.{StoreCall, AreCalled, FailAlike}
+use Rattle.store_calls.proofs.Parts.{called_apart, fail_after}
+use Rattle.store_calls.proofs.Dues.{same_put_answer}
+use Rattle.store_calls.proofs.Holds.{HoldAlike, hold_fewer, AfterPut, same_put}
 use Rattle.cell_file.specs.Asks.{AreFetch}
 use Rattle.cell_file.specs.Keys.{KeyNames, edited_key}
 use Rattle.cell_file.specs.declared.errors.FetchErr.{FetchErr}
@@ -25,7 +28,6 @@ use Rattle.sole_cache.specs.Acquires.{lane_at, put_call, HoldsUp, Acquires, refu
 use Rattle.alike_caches.specs.Alike.{AreAlike, IsSettled}
 use Rattle.alike_caches.proofs.After.{hold_alike, alike_after, settled_before}
 use Rattle.alike_caches.proofs.Asking.{FetchesAlike, fetches_alike, settled_edited, settled_base}
-use Rattle.alike_caches.proofs.Calls.{HoldAlike, hold_fewer, called_apart, fail_after, AfterPut, same_put, same_put_answer}
 use Rattle.alike_caches.proofs.Courses.{Fetches, Course, Hit, Full, Fetch, HeldUp, course_of, answer_by, last_event, fetch_saves}
 use Rattle.alike_caches.proofs.Looking.{hit_same, not_absent_first, not_absent_second}
 use Rattle.alike_caches.proofs.Rooms.{IsSettledBut, settled_but, RoomsAlike, rooms_alike, full_too, full_no_room, full_no_victim, victim_live, put_same}
@@ -173,18 +175,8 @@ module _ (c d c' d' : Cached) (cell : ℕ) (a : AreAlike c d) (inside : cell < c
         let puts : p.puts ≡ put_call c out.0 p.slot put.Done ∷ [] = out.3 ∙ ap (λ b. cond b (put_call c out.0 p.slot put.Done ∷ []) []) marked in
         let heads : FailAlike (put_call c out.0 p.slot put.Done ∷ (p.gets ++ m)) (put_call d q.due q.slot q.answer ∷ n) =
         subst (λ x. FailAlike ((x ++ p.gets) ++ m) (put_call d q.due q.slot q.answer ∷ n)) puts (subst (λ x. FailAlike (x ++ m) (put_call d q.due q.slot q.answer ∷ n)) p.calls_are (subst (λ y. FailAlike (k ++ m) (y ++ n)) q.calls_are fail)) in
-        done_refuses q.answer w q.err_is (same_put_answer 0 [] [] put.Done q.answer (failed q.answer heads.0) (memory q.answer heads.1))
+        done_refuses q.answer w q.err_is (same_put_answer 0 [] [] put.Done q.answer heads.0 heads.1)
   ]
-    where
-      failed : (x : Put) → is_failed (put_call d q.due q.slot x) ≡ false → is_failed (Putting 0 [] [] x) ≡ false
-      failed put.Done e = refl
-      failed put.Failed e = e
-      failed put.NoMemory e = refl
-
-      memory : (x : Put) → wants_memory (put_call d q.due q.slot x) ≡ false → wants_memory (Putting 0 [] [] x) ≡ false
-      memory put.Done e = refl
-      memory put.Failed e = refl
-      memory put.NoMemory e = e
 
   held_not_fetch : (v : AcquireErr) (s : Result Handle AcquireErr) (e f : List Event) (k l m n : List StoreCall) → HoldsUp c cell v e k → Fetches d cell s f l → FailAlike (k ++ m) (l ++ n) → ⊥
   held_not_fetch v s e f k l m n p q fail = elim q.room [
@@ -196,18 +188,8 @@ module _ (c d c' d' : Cached) (cell : ℕ) (a : AreAlike c d) (inside : cell < c
         let puts : q.puts ≡ put_call d out.0 q.slot put.Done ∷ [] = out.3 ∙ ap (λ b. cond b (put_call d out.0 q.slot put.Done ∷ []) []) marked in
         let heads : FailAlike (put_call c p.due p.slot p.answer ∷ m) (put_call d out.0 q.slot put.Done ∷ (q.gets ++ n)) =
         subst (λ y. FailAlike (put_call c p.due p.slot p.answer ∷ m) ((y ++ q.gets) ++ n)) puts (subst (λ y. FailAlike (put_call c p.due p.slot p.answer ∷ m) (y ++ n)) q.calls_are (subst (λ x. FailAlike (x ++ m) (l ++ n)) p.calls_are fail)) in
-        done_refuses p.answer v p.err_is (same_put_answer 0 [] [] put.Done p.answer (failed p.answer heads.0) (memory p.answer heads.1))
+        done_refuses p.answer v p.err_is (sym (same_put_answer 0 [] [] p.answer put.Done heads.0 heads.1))
   ]
-    where
-      failed : (x : Put) → false ≡ is_failed (put_call c p.due p.slot x) → is_failed (Putting 0 [] [] x) ≡ false
-      failed put.Done e = refl
-      failed put.Failed e = sym e
-      failed put.NoMemory e = refl
-
-      memory : (x : Put) → false ≡ wants_memory (put_call c p.due p.slot x) → wants_memory (Putting 0 [] [] x) ≡ false
-      memory put.Done e = refl
-      memory put.Failed e = refl
-      memory put.NoMemory e = sym e
 
   full_back : IsFull d → IsFull c
   full_back full i lt = subst (λ n. 0 < n) (Rattle.alike_caches.proofs.Seats.all_pins_same c d a i) (full i (subst (λ n. i < n) (sym a.slots) lt))

@@ -5,35 +5,22 @@ use Rattle.std.specs.Str.{bytes_eq}
 use Rattle.cell_grid.specs.declared.level.Level.{Level}
 use Rattle.cell_grid.specs.Pyramid.{cells_of, voxels_of, lane_of}
 use Rattle.cell_file.specs.Keys.{AreKeys, edited_key}
-use Rattle.recency.specs.Order.{Order}
 use Rattle.arr_history.specs.declared.event.Event.{Event}
 use Rattle.arr_history.specs.declared.event.Event.TheVariants as event
 use Rattle.arr_history.specs.State.{State}
-use Rattle.arr_history.specs.Shape.{Shape}
-use Rattle.arr_history.specs.Next.{next}
 use Rattle.arr_history.specs.Tally.{raised, is_writeback}
 use Rattle.arr_history.specs.History.{IsSame}
-use Rattle.arr_history.proofs.Leads.{same_next, same_after, same_sym, same_trans, same_in}
+use Rattle.arr_history.proofs.Leads.{same_after, same_sym, same_trans, same_in}
+use Rattle.store_calls.proofs.Holds.{HoldAlike, hold_fewer}
 use Rattle.sole_cache.specs.Cached.{Cached, state_of, shape_of}
 use Rattle.sole_cache.specs.Valid.{IsCache}
-use Rattle.sole_cache.specs.Turns.{order_next, order_after, touched_by, left_by}
+use Rattle.sole_cache.specs.Turns.{order_after}
 use Rattle.sole_cache.specs.Moves.{saves, Moves, Runs}
+use Rattle.sole_cache.proofs.Composed.{order_same}
 use Rattle.sole_cache.specs.Acquires.{Quiet}
 use Rattle.alike_caches.specs.Alike.{AreAlike, IsSettled}
-use Rattle.alike_caches.proofs.Calls.{HoldAlike, hold_fewer}
 use Rattle.alike_caches.proofs.Marks.{mark_stays}
 use Rattle.alike_caches.proofs.Seats.{told_second}
-
--- the order after an event is the same in states that are the same
-order_same_next : (b : Shape) (s t : State) (o : Order) (e : Event) → IsSame b s t → order_next s o e ≡ order_next t o e
-order_same_next b s t o (event.Pin k c) same = ap (touched_by o) (same.cells c)
-order_same_next b s t o (event.Gone k c saved) same = ap (left_by o) (same.cells c)
-order_same_next b s t o (event.Back k c) same = ap (touched_by o) (same.cells c)
-order_same_next b s t o _ same = refl
-
-order_same : (b : Shape) (s t : State) (o : Order) (events : List Event) → IsSame b s t → order_after s o events ≡ order_after t o events
-order_same b s t o [] same = refl
-order_same b s t o (e ∷ events) same = ap (λ x. order_after (next s e) x events) (order_same_next b s t o e same) ∙ order_same b (next s e) (next t e) (order_next t o e) events (same_next b s t e same)
 
 -- The stores of a cache that is alike hold the same under settled keys.
 pub hold_alike : (c d : Cached) → AreAlike c d → HoldAlike (IsSettled c) c.shown d.shown

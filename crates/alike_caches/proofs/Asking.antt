@@ -9,6 +9,7 @@ use Rattle.cell_store.specs.Store.{Contents, KeepsTo}
 use Rattle.cell_store.specs.declared.store.Got.{Got}
 use Rattle.cell_store.specs.declared.store.Got.TheVariants as got
 use Rattle.store_calls.specs.Calls.{StoreCall, Getting, AreCalled, FailAlike}
+use Rattle.store_calls.proofs.Holds.{HoldAlike, same_get, get_first, get_second}
 use Rattle.cell_file.specs.declared.errors.FetchErr.{FetchErr}
 use Rattle.cell_file.specs.declared.errors.FetchErr.TheVariants.{Malformed}
 use Rattle.cell_file.specs.Asks.{Decides, AreFetch, fetch_calls}
@@ -20,7 +21,6 @@ use Rattle.cell_file.proofs.StandingLemmas.{malformed_some, values_short, refusa
 use Rattle.arr_history.specs.Legal.{IsMarked}
 use Rattle.sole_cache.specs.Cached.{Cached, slot_of, state_of, state_at}
 use Rattle.alike_caches.specs.Alike.{AreAlike, IsSettled}
-use Rattle.alike_caches.proofs.Calls.{HoldAlike, same_get, get_first, get_second}
 
 -- bytes within the limit that give values are not refused
 not_both : (levels : List Level) (keys : KeyNames) (cell : ℕ) (edited : Bool) (answer : Got) (found values : List ℕ) (err : FetchErr) → KeepsTo (limit_of levels cell) answer found

@@ -1,4 +1,3 @@
-pub mod Calls
 pub mod Seats
 pub mod Marks
 pub mod After

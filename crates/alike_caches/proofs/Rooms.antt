@@ -10,6 +10,7 @@ use Rattle.cell_store.specs.Store.{Contents}
 use Rattle.cell_store.specs.declared.store.Put.{Put}
 use Rattle.cell_store.specs.declared.store.Put.TheVariants as put
 use Rattle.store_calls.specs.Calls.{StoreCall, AreCalled}
+use Rattle.store_calls.proofs.Holds.{HoldAlike, hold_fewer, AfterPut, same_put, same_or_not}
 use Rattle.cell_file.specs.Asks.{save_call}
 use Rattle.cell_file.specs.Keys.{edited_key}
 use Rattle.arr_history.specs.declared.event.Event.{Event}
@@ -22,7 +23,6 @@ use Rattle.sole_cache.specs.Valid.{IsCache}
 use Rattle.sole_cache.specs.Moves.{saves, Moves}
 use Rattle.sole_cache.specs.Acquires.{lane_at, put_call, MakesRoom}
 use Rattle.alike_caches.specs.Alike.{AreAlike, IsSettled}
-use Rattle.alike_caches.proofs.Calls.{HoldAlike, hold_fewer, AfterPut, same_put, same_or_not}
 use Rattle.alike_caches.proofs.Marks.{mark_stays}
 use Rattle.alike_caches.proofs.Seats.{all_pins_same, marked_same, voxels_same, lowest_free_same, not_free_first, not_free_second, victim_same}
 

@@ -7,6 +7,9 @@ use Rattle.cell_store.specs.Store.{Contents}
 use Rattle.cell_store.specs.declared.store.Put.{Put}
 use Rattle.cell_store.specs.declared.store.Put.TheVariants as put
 use Rattle.store_calls.specs.Calls.{StoreCall, AreCalled, FailAlike}
+use Rattle.store_calls.proofs.Parts.{called_apart, fail_after, called_lanes}
+use Rattle.store_calls.proofs.Dues.{same_put_answer}
+use Rattle.store_calls.proofs.Holds.{HoldAlike, hold_fewer, AfterPut, same_put}
 use Rattle.cell_file.specs.Asks.{save_call}
 use Rattle.cell_file.specs.Keys.{edited_key}
 use Rattle.arr_history.specs.declared.closed.Unsaved.{Unsaved}
@@ -16,7 +19,6 @@ use Rattle.sole_cache.specs.Cached.{Cached, slot_of, slot_at, state_at}
 use Rattle.sole_cache.specs.Puts.{named_by, IsPutWhere, IsPutAt, IsPutSlot, ArePut}
 use Rattle.alike_caches.specs.Alike.{AreAlike, AreAlikeBut, IsSettled, IsUnnamed}
 use Rattle.alike_caches.proofs.After.{hold_alike}
-use Rattle.alike_caches.proofs.Calls.{HoldAlike, hold_fewer, called_apart, fail_after, AfterPut, same_put, same_put_answer, called_lanes}
 use Rattle.alike_caches.proofs.Seats.{some_same, none_some, cell_same, marked_same, voxels_same}
 
 -- Two slots with the same cell, its mark and its voxels.

@@ -1,1 +1,4 @@
 pub mod Composed
+pub mod Parts
+pub mod Dues
+pub mod Holds
