@@ -1,19 +1,14 @@
 -- Calls of a queue, and pictures, that are the same.
-use Rattle.std.proofs.Common.{◌≡◌, ◌∙◌, ℕ, zero, suc, ◌*◌, ◌+◌, ◌<◌, ◌/◌, ◌%◌, List, [], ◌∷◌, length, slice_index, refl, sym, ap, subst, arith, div-lt_iff_lt-mul, mod-lt}
+use Rattle.std.proofs.Common.{◌≡◌, ◌∙◌, ℕ, zero, suc, ◌*◌, ◌<◌, ◌/◌, ◌%◌, List, [], ◌∷◌, length, slice_index, sym, ap, subst, arith, div-lt_iff_lt-mul, mod-lt}
 use Rattle.std.proofs.Math.Nat.{mod-add-div'}
 use Rattle.std.proofs.lemmas.Grind.{same_number_lists}
-use Rattle.cell_grid.specs.declared.level.Level.{Level}
-use Rattle.arr_history.specs.declared.event.Event.{Event}
-use Rattle.scale_pick.specs.declared.view.View.{View}
 use Rattle.scale_pick.specs.Notes.{notes_of}
-use Rattle.scale_pick.specs.Picture.{Pixels, place, IsFilled}
+use Rattle.scale_pick.specs.Picture.{place}
 use Rattle.fetch_queue.specs.Queue.{Queue}
-use Rattle.volatile_cell.specs.Asked.{Asked, after_call, reply_to, AskedFrom}
-use Rattle.volatile_cell.specs.declared.queue_call.QueueCall.TheVariants as call
+use Rattle.volatile_cell.specs.Asked.{Asked, after_call, AskedFrom}
 use Rattle.volatile_cell.specs.declared.queue_reply.QueueReply.TheVariants as reply
 use Rattle.volatile_cell.specs.StrategyRule.{requests_for, clearing}
-use Rattle.hier_paint.specs.Frames.{KeepsRule}
-use Rattle.alike_frames.specs.Frames.{ShowSame, FramesAskAlike, PicturesAreOne}
+use Rattle.alike_frames.specs.Frames.{FramesAskAlike, PicturesAreOne}
 
 -- the same calls lead to one queue
 pub one_queue : (q r t : Queue) (calls : List Asked) → AskedFrom q calls r → AskedFrom q calls t → t ≡ r
@@ -48,7 +43,7 @@ pub pictures_are_one : PicturesAreOne
 pictures_are_one p q filled full same =
     let size : q.width * q.height ≡ p.width * p.height = ap (λ w. w * q.height) same.width ∙ ap (λ h. p.width * h) same.height in
     let values : q.values ≡ p.values = one_list p.width p.height p.values q.values filled.values (full.values ∙ size)
-          (λ x y in_row in_column. ap (λ w. slice_index q.values (place w x y)) (sym same.width) ∙ same.values x y in_row in_column) in
+    (λ x y in_row in_column. ap (λ w. slice_index q.values (place w x y)) (sym same.width) ∙ same.values x y in_row in_column) in
     let mask : q.mask ≡ p.mask = one_list p.width p.height p.mask q.mask filled.mask (full.mask ∙ size)
-          (λ x y in_row in_column. ap (λ w. slice_index q.mask (place w x y)) (sym same.width) ∙ same.mask x y in_row in_column) in
+    (λ x y in_row in_column. ap (λ w. slice_index q.mask (place w x y)) (sym same.width) ∙ same.mask x y in_row in_column) in
     λ i. record { width = same.width i; height = same.height i; values = values i; mask = mask i }

@@ -1,5 +1,5 @@
 -- Whole frames over caches that are alike.
-use Rattle.std.proofs.Common.{◌≡◌, ◌∙◌, ◌⊎◌, inl, inr, ℕ, zero, suc, ◌<◌, ◌≤◌, List, [], ◌∷◌, ◌++◌, Option, None, Some, Result, refl, sym, ap, subst, subst₂, append_assoc, eq-or-lt_of_le, le_of_suc-le-suc, arith}
+use Rattle.std.proofs.Common.{◌≡◌, ◌∙◌, ◌⊎◌, inl, inr, ℕ, zero, suc, ◌<◌, List, [], ◌∷◌, ◌++◌, Option, None, Some, refl, sym, ap, subst, subst₂, append_assoc, eq-or-lt_of_le, le_of_suc-le-suc, arith}
 use Rattle.std.specs.declared.result.Result.TheVariants.{Err}
 use Rattle.cell_grid.specs.declared.level.Level.{Level}
 use Rattle.cell_grid.specs.Pyramid.{cells_of}
@@ -15,12 +15,12 @@ use Rattle.hier_paint.specs.Sight.{opening}
 use Rattle.hier_paint.specs.Visits.{Visit}
 use Rattle.hier_paint.specs.Frames.{IsVisited, IsVisitedTo}
 use Rattle.alike_frames.specs.Alike.{AreAlike}
-use Rattle.alike_frames.specs.Frames.{ShowSame, Paints, CutsOff, Frames, FramesAreAlike}
+use Rattle.alike_frames.specs.Frames.{ShowSame, MakesFrame, FramesAreAlike}
 use Rattle.alike_frames.proofs.Tandem.{AlikeLaws, Ends, Tandem}
 use Rattle.alike_frames.proofs.Ways.{Spot, Refused, spots, row_spots, value_at, mask_at, IsRest, whole_way, cut_way}
 use Rattle.alike_frames.proofs.Spots.{voxel_in_range}
 use Rattle.alike_frames.proofs.Going.{Going}
-use Rattle.alike_frames.proofs.Framing.{AreSameAt, Outcome, frames_alike}
+use Rattle.alike_frames.proofs.Framing.{AreSameAt, frames_alike}
 
 -- how a frame closes: it is painted; or a look is refused
 abbrev IsClosed : List Level → Cached → List StoreCall → List StoreCall → Option AcquireErr → Option Refused → Cached → Type 0
@@ -45,7 +45,7 @@ record IsLaid (levels : List Level) (c : Cached) (viewer : ℕ) (view : View) (p
   closed : IsClosed levels between left m r cut d
 
 laid : (levels : List Level) (c : Cached) (viewer : ℕ) (view : View) (picture : Pixels) (r : Option AcquireErr) (events : List Event) (calls m : List StoreCall) (d : Cached)
-    → c.levels ≡ levels → Frames c viewer view picture r events calls d → IsLaid levels c viewer view picture r events calls m d
+    → c.levels ≡ levels → MakesFrame c viewer view picture r events calls d → IsLaid levels c viewer view picture r events calls m d
 laid levels c viewer view picture None events calls m d same f =
     let v = subst (λ (ls : List Level). IsVisited 0 viewer ls view picture events) same f.visited in
     record {
@@ -106,7 +106,7 @@ closing laws levels a b c' d' left other m n r (Some err) cut None l e h g alike
 closing laws levels a b c' d' left other m n (Some err) (Some err') (Some v) (Some w) l e (piece, asked, acquires, is, inside) (piece', asked', acquires', is', inside') alike fail =
     let same : w.cell ≡ v.cell = cc e in
     let law = laws.acquires a b c' d' v.cell (Err err) (Err err') piece piece' asked asked' m n alike (subst (λ (ls : List Level). v.cell < cells_of ls) (sym l) inside) acquires
-          (subst (λ cell. Acquires b cell (Err err') piece' asked' d') same acquires') (subst₂ FailAlike is is' fail) in
+    (subst (λ cell. Acquires b cell (Err err') piece' asked' d') same acquires') (subst₂ FailAlike is is' fail) in
     let err_same : err' ≡ err = cc law.0 in
     (ap Some err_same, law.2, law.3)
 

@@ -1,5 +1,5 @@
 -- Fetches over caches that are alike.
-use Rattle.std.proofs.Common.{◌≡◌, ◌∙◌, ◌⊎◌, inl, inr, ℕ, zero, suc, ◌-◌, ◌<◌, ◌&&◌, Bool, true, false, IsTrue, List, [], ◌∷◌, ◌++◌, length, Option, None, Some, Result, refl, sym, ap, ap₂, subst, subst₂, append_assoc, true≢false, arith}
+use Rattle.std.proofs.Common.{◌≡◌, ◌∙◌, ◌⊎◌, inl, inr, ℕ, ◌-◌, ◌<◌, ◌&&◌, Bool, true, false, List, [], ◌∷◌, ◌++◌, length, Result, refl, sym, ap, ap₂, subst, subst₂, append_assoc, true≢false, arith}
 use Rattle.std.specs.declared.result.Result.TheVariants.{Ok, Err}
 use Rattle.std.specs.List.{list_all}
 use Rattle.cell_file.specs.declared.errors.AcquireErr.TheVariants as refusal
@@ -9,11 +9,11 @@ use Rattle.fetch_queue.specs.Queue.{Queue}
 use Rattle.sole_cache.specs.Cached.{Cached}
 use Rattle.volatile_cell.specs.Asked.{Asked}
 use Rattle.fetchers.specs.declared.served.Served.{Served}
-use Rattle.fetchers.specs.declared.served.Served.TheVariants.{Idle, Held, Loaded, Refused}
+use Rattle.fetchers.specs.declared.served.Served.TheVariants.{Idle, Refused}
 use Rattle.fetchers.specs.declared.fetched.Fetched.{Fetched}
-use Rattle.fetchers.specs.Servings.{goes_on, counts_of, IsWhole, IsEndedBy, IsAnswer}
+use Rattle.fetchers.specs.Servings.{goes_on, IsAnswer}
 use Rattle.alike_frames.specs.Alike.{AreAlike}
-use Rattle.alike_frames.specs.Servings.{Serves, ServesAll, FetchesAreAlike}
+use Rattle.alike_frames.specs.Servings.{ServesAll, FetchesAreAlike}
 use Rattle.alike_frames.proofs.Tandem.{AlikeLaws}
 use Rattle.alike_frames.proofs.Serving.{servings_are_alike}
 
@@ -110,7 +110,7 @@ all_alike laws (s ∷ servings) [] count c d c' d' q r t e f u v k l m n h g ali
 all_alike laws (s ∷ servings) (o ∷ others) count c d c' d' q r t e f u v k l m n h g alike
     (mid, between, first, rest, taken, more, made, ahead, serves, are, e_is, u_is, k_is) (mid', between', first', rest', taken', more', made', ahead', serves', are', f_is, v_is, l_is) fail =
     let joined : FailAlike (made ++ (ahead ++ m)) (made' ++ (ahead' ++ n)) =
-          subst₂ FailAlike (ap (λ (x : List StoreCall). x ++ m) k_is ∙ append_assoc made ahead m) (ap (λ (x : List StoreCall). x ++ n) l_is ∙ append_assoc made' ahead' n) fail in
+    subst₂ FailAlike (ap (λ (x : List StoreCall). x ++ m) k_is ∙ append_assoc made ahead m) (ap (λ (x : List StoreCall). x ++ n) l_is ∙ append_assoc made' ahead' n) fail in
     let on = servings_are_alike laws c d mid mid' q between between' s o first first' taken taken' made made' (ahead ++ m) (ahead' ++ n) alike serves serves' joined in
     let left = ahead_of count s o servings others on.0 h.1 g.1 in
     let r = all_alike laws servings others left.0 mid mid' c' d' between r t rest rest' more more' ahead ahead' m n left.1 left.2 on.3 are (subst (λ b. ServesAll mid' b others rest' more' ahead' d' t) on.4 are') on.5 in (

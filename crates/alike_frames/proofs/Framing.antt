@@ -1,7 +1,6 @@
 -- Two frames of the same view over caches that are alike.
-use Rattle.std.proofs.Common.{◌≡◌, ◌∙◌, ℕ, zero, suc, true, List, [], ◌∷◌, ◌++◌, Option, None, Some, refl, sym, ap, ap₂, subst, subst₂, append_assoc}
-use Rattle.cell_grid.specs.Pyramid.{cells_of}
-use Rattle.store_calls.specs.Calls.{StoreCall, FailAlike}
+use Rattle.std.proofs.Common.{◌≡◌, ◌∙◌, ℕ, zero, suc, true, List, [], ◌∷◌, ◌++◌, Option, None, Some, sym, ap, ap₂, subst, subst₂, append_assoc}
+use Rattle.store_calls.specs.Calls.{FailAlike}
 use Rattle.arr_history.specs.declared.event.Event.{Event}
 use Rattle.arr_history.specs.declared.event.Event.TheVariants as event
 use Rattle.scale_pick.specs.declared.view.View.{View}
@@ -11,7 +10,7 @@ use Rattle.scale_pick.specs.Picture.{Pixels}
 use Rattle.scale_pick.specs.Wanted.{wanted_level}
 use Rattle.sole_cache.specs.Cached.{Cached}
 use Rattle.volatile_cell.specs.Budget.{loads_by}
-use Rattle.hier_paint.specs.Sight.{Sight, given_back}
+use Rattle.hier_paint.specs.Sight.{Sight}
 use Rattle.hier_paint.specs.Visits.{Visit, reading, skipping, IsLookedFor}
 use Rattle.alike_frames.specs.Alike.{AreAlike}
 use Rattle.alike_frames.proofs.Tandem.{AlikeLaws, Ends, Tandem}
@@ -19,7 +18,7 @@ use Rattle.alike_frames.proofs.Getting.{Refuses}
 use Rattle.alike_frames.proofs.Visiting.{both_missed, both_visit, not_ready_missed, not_missed_ready, not_ready_cut, not_cut_ready, not_missed_cut}
 use Rattle.alike_frames.proofs.Ways.{Spot, Refused, value_at, mask_at, IsEnd, outside, read, blank, refused, AreLevels, IsRest}
 use Rattle.alike_frames.proofs.Spots.{one_voxel, voxel_in_range, not_outside, no_voxel, no_outside}
-use Rattle.alike_frames.proofs.Going.{IsFate, Going, Gone, go_on, at_end, is_calm_ahead, both_end}
+use Rattle.alike_frames.proofs.Going.{IsFate, Going, go_on, at_end, is_calm_ahead, both_end}
 
 -- two pictures show the same at some pixels
 abbrev pub AreSameAt : Pixels → Pixels → List Spot → Type 0
@@ -87,10 +86,10 @@ module _ (laws : AlikeLaws) (z : Ends) (viewer : ℕ) (view : View) (picture oth
       let a = go_on viewer z.levels z.first z.left cut s (reading level cell at x) more e going in
       let b = go_on viewer z.levels z.second z.other fate s (reading level cell at y) more' f (subst (λ (v : List Visit). Second s v f) same going') in
       let on = both_visit laws z viewer c d s a.then b.then level cell at x y a.first b.first a.rest b.rest a.asked b.asked (voxel_in_range z.levels view.affine level spot.x spot.y cell at voxel)
-            a.visit b.visit (subst₂ (Tandem z c d) a.is b.is t) in
+      a.visit b.visit (subst₂ (Tandem z c d) a.is b.is t) in
       let r = go_alike on.3.c on.3.d a.then more more' a.rest b.rest way way' a.going (subst (λ (u : Sight). Second u more' b.rest) on.1 b.going) on.3.pair in
       subst₂ (Result (spot ∷ rest)) (sym a.is) (sym b.is)
-        (one_pixel spot rest a.rest b.rest a.first b.first (value' ∙ ap (λ n. shown n view.low view.high) on.0 ∙ sym value) (mask' ∙ sym mask) r (ap₂ (λ (m n : List Event). m ++ n) on.2 r.same_events))
+      (one_pixel spot rest a.rest b.rest a.first b.first (value' ∙ ap (λ n. shown n view.low view.high) on.0 ∙ sym value) (mask' ∙ sym mask) r (ap₂ (λ (m n : List Event). m ++ n) on.2 r.same_events))
 
   -- one reads it, and the other is cut off there
   read_cut : (spot : Spot) (rest : List Spot) (level cell at x cell' at' : ℕ) (c d : Cached) (s : Sight) (more : List Visit) (e f : List Event)
@@ -104,7 +103,7 @@ module _ (laws : AlikeLaws) (z : Ends) (viewer : ℕ) (view : View) (picture oth
       let (found, finds, are) = a.visit in
       let e_is : e ≡ found ++ (event.Read 0 cell at x ∷ a.rest) = a.is ∙ ap (λ (es : List Event). es ++ a.rest) are ∙ append_assoc found (event.Read 0 cell at x ∷ []) a.rest in
       not_ready_cut laws z viewer c d s a.then level cell found (event.Read 0 cell at x ∷ a.rest) a.asked (voxel_in_range z.levels view.affine level spot.x spot.y cell at voxel)
-        finds due.0 (subst₂ (Tandem z c d) e_is b.0 t) due.2
+      finds due.0 (subst₂ (Tandem z c d) e_is b.0 t) due.2
 
   cut_read : (spot : Spot) (rest : List Spot) (level cell at x cell' at' : ℕ) (c d : Cached) (s : Sight) (more : List Visit) (e f : List Event)
       → HasVoxel z.levels view.affine level spot.x spot.y cell at → HasVoxel z.levels view.affine level spot.x spot.y cell' at' → cut ≡ Some (record { level = level; cell = cell' })
@@ -117,7 +116,7 @@ module _ (laws : AlikeLaws) (z : Ends) (viewer : ℕ) (view : View) (picture oth
       let (found, finds, are) = b.visit in
       let f_is : f ≡ found ++ (event.Read 0 cell at x ∷ b.rest) = b.is ∙ ap (λ (es : List Event). es ++ b.rest) are ∙ append_assoc found (event.Read 0 cell at x ∷ []) b.rest in
       not_cut_ready laws z viewer c d s b.then level cell found (event.Read 0 cell at x ∷ b.rest) b.asked (voxel_in_range z.levels view.affine level spot.x spot.y cell at voxel)
-        finds due.0 (subst₂ (Tandem z c d) a.0 f_is t) due.2
+      finds due.0 (subst₂ (Tandem z c d) a.0 f_is t) due.2
 
   -- both are cut off there
   both_cut : (spot : Spot) (rest : List Spot) (level cell at cell' at' : ℕ) (c d : Cached) (s : Sight) (e f : List Event)
@@ -149,7 +148,7 @@ module _ (laws : AlikeLaws) (z : Ends) (viewer : ℕ) (view : View) (picture oth
   ends spot rest go_alike level c d s v w e f (read cell at x more voxel value mask is way) (outside out dark mask' way') going going' t = absurd (not_outside z.levels view.affine level spot.x spot.y cell at out voxel)
   ends spot rest go_alike level c d s v w e f (read cell at x more voxel value mask is way) (read cell' at' y more' voxel' value' mask' is' way') going going' t =
       both_read_at spot rest go_alike level cell at x cell' at' y c d s more more' e f voxel value mask way voxel' value' mask' way'
-        (subst (λ (u : List Visit). First s u e) is going) (subst (λ (u : List Visit). Second s u f) is' going') t
+      (subst (λ (u : List Visit). First s u e) is going) (subst (λ (u : List Visit). Second s u f) is' going') t
   ends spot rest go_alike level c d s v w e f (read cell at x more voxel value mask is way) (blank last dark mask' way') going going' t = absurd (no_voxel z.levels view.affine level spot.x spot.y cell at last voxel)
   ends spot rest go_alike level c d s v w e f (read cell at x more voxel value mask is way) (refused cell' at' voxel' none is') going going' t =
       absurd (read_cut spot rest level cell at x cell' at' c d s more e f voxel voxel' is' (subst (λ (u : List Visit). First s u e) is going) (subst (λ (u : List Visit). Second s u f) none going') t)
@@ -178,7 +177,7 @@ module _ (laws : AlikeLaws) (z : Ends) (viewer : ℕ) (view : View) (picture oth
       let (found, finds, are) = b.visit in
       let f_is : f ≡ found ++ (event.Read 0 cell at' y ∷ b.rest) = b.is ∙ ap (λ (es : List Event). es ++ b.rest) are ∙ append_assoc found (event.Read 0 cell at' y ∷ []) b.rest in
       not_missed_ready laws z viewer c d s a.then b.then level cell a.first found a.rest (event.Read 0 cell at' y ∷ b.rest) a.asked b.asked
-        (is_calm_ahead viewer z.levels z.first z.left cut a.then more a.rest a.going) a.visit finds (subst₂ (Tandem z c d) a.is f_is t)
+      (is_calm_ahead viewer z.levels z.first z.left cut a.then more a.rest a.going) a.visit finds (subst₂ (Tandem z c d) a.is f_is t)
   not_skip_end spot rest level cell at c d s more w e f voxel (refused cell' at' voxel' none is) going going' t =
       let place = one_voxel z.levels view.affine level spot.x spot.y cell at cell' at' voxel voxel' in
       let a = go_on viewer z.levels z.first z.left cut s (skipping level cell) more e going in
@@ -197,7 +196,7 @@ module _ (laws : AlikeLaws) (z : Ends) (viewer : ℕ) (view : View) (picture oth
       let (found, finds, are) = a.visit in
       let e_is : e ≡ found ++ (event.Read 0 cell at' x ∷ a.rest) = a.is ∙ ap (λ (es : List Event). es ++ a.rest) are ∙ append_assoc found (event.Read 0 cell at' x ∷ []) a.rest in
       not_ready_missed laws z viewer c d s a.then b.then level cell found b.first (event.Read 0 cell at' x ∷ a.rest) b.rest a.asked b.asked
-        (is_calm_ahead viewer z.levels z.second z.other fate b.then more b.rest b.going) finds b.visit (subst₂ (Tandem z c d) e_is b.is t)
+      (is_calm_ahead viewer z.levels z.second z.other fate b.then more b.rest b.going) finds b.visit (subst₂ (Tandem z c d) e_is b.is t)
   not_end_skip spot rest level cell at c d s more v e f voxel (refused cell' at' voxel' none is) going going' t =
       let place = one_voxel z.levels view.affine level spot.x spot.y cell at cell' at' voxel voxel' in
       let a = at_end viewer z.levels z.first z.left cut s e (subst (λ (u : List Visit). First s u e) none going) in
@@ -218,7 +217,7 @@ module _ (laws : AlikeLaws) (z : Ends) (viewer : ℕ) (view : View) (picture oth
       let a = go_on viewer z.levels z.first z.left cut s (skipping level cell) more e (subst (λ (u : List Visit). First s u e) is going) in
       let b = go_on viewer z.levels z.second z.other fate s (skipping level cell) more' f (subst (λ (u : List Visit). Second s u f) (is' ∙ ap (λ n. skipping level n ∷ more') (sym place.0)) going') in
       let on = both_missed laws z viewer c d s a.then b.then level cell a.first b.first a.rest b.rest a.asked b.asked
-            (is_calm_ahead viewer z.levels z.first z.left cut a.then more a.rest a.going) (is_calm_ahead viewer z.levels z.second z.other fate b.then more' b.rest b.going) a.visit b.visit (subst₂ (Tandem z c d) a.is b.is t) in
+      (is_calm_ahead viewer z.levels z.first z.left cut a.then more a.rest a.going) (is_calm_ahead viewer z.levels z.second z.other fate b.then more' b.rest b.going) a.visit b.visit (subst₂ (Tandem z c d) a.is b.is t) in
       let r = at_level spot rest go_alike (suc level) n m on.2.c on.2.d a.then more more' a.rest b.rest after after' a.going (subst (λ (u : Sight). Second u more' b.rest) on.0 b.going) on.2.pair in
       record { same_events = b.is ∙ ap₂ (λ (m n : List Event). m ++ n) on.1 r.same_events ∙ sym a.is; same_end = r.same_end; levels = r.levels; alike = r.alike; fail = r.fail; same = r.same }
 

@@ -1,17 +1,16 @@
 -- Looks from two caches that are alike.
-use Rattle.std.proofs.Common.{◌≡◌, ◌∙◌, ◌⊎◌, inl, inr, ℕ, suc, ◌<◌, Bool, true, false, cond, List, [], ◌∷◌, ◌++◌, Option, None, Some, Result, refl, sym, ap, subst, subst₂, append_assoc, true≢false}
+use Rattle.std.proofs.Common.{◌≡◌, ◌∙◌, inl, inr, ℕ, suc, ◌<◌, Bool, true, false, cond, List, [], ◌∷◌, ◌++◌, None, refl, sym, ap, subst, subst₂, append_assoc, true≢false}
 use Rattle.std.specs.Bool.{MatchBool}
-use Rattle.std.specs.declared.result.Result.TheVariants.{Ok, Err}
+use Rattle.std.specs.declared.result.Result.TheVariants.{Err}
 use Rattle.cell_grid.specs.declared.level.Level.{Level}
 use Rattle.cell_grid.specs.Pyramid.{cells_of}
 use Rattle.cell_file.specs.declared.errors.AcquireErr.{AcquireErr}
 use Rattle.cell_file.specs.declared.errors.AcquireErr.TheVariants as refusal
 use Rattle.store_calls.specs.Calls.{StoreCall, FailAlike}
 use Rattle.arr_history.specs.declared.event.Event.{Event}
-use Rattle.arr_history.specs.declared.event.Event.TheVariants.{Pin, Miss, Claim, Drop, Live, Close, Gone, Back}
+use Rattle.arr_history.specs.declared.event.Event.TheVariants.{Pin, Miss, Claim, Drop, Live}
 use Rattle.sole_cache.specs.Cached.{Cached, slot_of}
-use Rattle.sole_cache.specs.Handle.{Handle}
-use Rattle.sole_cache.specs.Acquires.{MakesRoom, Drops, HoldsUp, IsAcquire, Acquires}
+use Rattle.sole_cache.specs.Acquires.{MakesRoom, IsAcquire, Acquires}
 use Rattle.volatile_cell.specs.Asked.{Asked}
 use Rattle.volatile_cell.specs.Budget.{Allowance, loads_by, spent}
 use Rattle.volatile_cell.specs.Pieces.{misses, IsTurnOut, IsGranted}
@@ -115,9 +114,9 @@ module _ (laws : AlikeLaws) (z : Ends) where
       let here = nothing_left d t.others z.second t.goes in
       let acquires : Acquires d cell (Err r.err) r.events r.asked r.after = subst (λ (b : Cached). Acquires b cell (Err r.err) r.events r.asked r.after) here.0 r.acquires in
       let fail : FailAlike (load.asked ++ (load.more ++ z.left)) (r.asked ++ r.more) =
-            subst₂ FailAlike (ap (λ (v : List StoreCall). v ++ z.left) load.calls_are ∙ append_assoc load.asked load.more z.left) (ap (λ (v : List StoreCall). v ++ z.other) here.1 ∙ r.calls_are) t.fail in
+      subst₂ FailAlike (ap (λ (v : List StoreCall). v ++ z.left) load.calls_are ∙ append_assoc load.asked load.more z.left) (ap (λ (v : List StoreCall). v ++ z.other) here.1 ∙ r.calls_are) t.fail in
       let same = laws.acquires c d load.mid r.after cell load.result (Err r.err) (Miss 0 cell ∷ Claim 0 cell ∷ part) r.events load.asked r.asked (load.more ++ z.left) r.more
-            t.alike (subst (λ (ls : List Level). cell < cells_of ls) (sym t.levels) inside) load.acquires acquires fail in
+      t.alike (subst (λ (ls : List Level). cell < cells_of ls) (sym t.levels) inside) load.acquires acquires fail in
       true≢false (sym lives ∙ sym (ap has_live same.1) ∙ refused_no_live d cell r.err r.events r.asked acquires.is)
 
   pub not_refused_get : (c d : Cached) (cell : ℕ) (loaded : Bool) (p e : List Event) → cell < cells_of z.levels → Gets cell loaded p → Tandem z c d [] (p ++ e) → Refuses z.first cell z.left → ⊥
@@ -131,7 +130,7 @@ module _ (laws : AlikeLaws) (z : Ends) where
       let here = nothing_left c t.calls z.first t.follows in
       let acquires : Acquires c cell (Err r.err) r.events r.asked r.after = subst (λ (b : Cached). Acquires b cell (Err r.err) r.events r.asked r.after) here.0 r.acquires in
       let fail : FailAlike (r.asked ++ r.more) (load.asked ++ (load.more ++ z.other)) =
-            subst₂ FailAlike (ap (λ (v : List StoreCall). v ++ z.left) here.1 ∙ r.calls_are) (ap (λ (v : List StoreCall). v ++ z.other) load.calls_are ∙ append_assoc load.asked load.more z.other) t.fail in
+      subst₂ FailAlike (ap (λ (v : List StoreCall). v ++ z.left) here.1 ∙ r.calls_are) (ap (λ (v : List StoreCall). v ++ z.other) load.calls_are ∙ append_assoc load.asked load.more z.other) t.fail in
       let same = laws.acquires c d r.after load.mid cell (Err r.err) load.result r.events (Miss 0 cell ∷ Claim 0 cell ∷ part) r.asked load.asked r.more (load.more ++ z.other)
-            t.alike (subst (λ (ls : List Level). cell < cells_of ls) (sym t.levels) inside) acquires load.acquires fail in
+      t.alike (subst (λ (ls : List Level). cell < cells_of ls) (sym t.levels) inside) acquires load.acquires fail in
       true≢false (sym lives ∙ ap has_live same.1 ∙ refused_no_live c cell r.err r.events r.asked acquires.is)

@@ -11,3 +11,4 @@ pub mod Closing
 pub mod Asking
 pub mod Serving
 pub mod Fetching
+pub mod Taken

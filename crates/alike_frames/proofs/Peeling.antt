@@ -1,5 +1,5 @@
 -- Steps of eyes, told apart by their events.
-use Rattle.std.proofs.Common.{◌≡◌, ◌∙◌, ◌⊎◌, inl, inr, ℕ, zero, suc, Bool, true, false, List, [], ◌∷◌, ◌++◌, Option, None, Some, Result, refl, sym, ap, subst, append_assoc}
+use Rattle.std.proofs.Common.{◌≡◌, ◌∙◌, ◌⊎◌, inl, inr, ℕ, zero, suc, true, false, List, [], ◌∷◌, ◌++◌, None, Some, Result, refl, sym, ap, subst}
 use Rattle.std.proofs.Common.{true≢false}
 use Rattle.std.specs.Bool.{MatchBool}
 use Rattle.std.specs.declared.result.Result.TheVariants.{Ok, Err}
@@ -8,14 +8,14 @@ use Rattle.cell_file.specs.declared.errors.AcquireErr.TheVariants as refusal
 use Rattle.store_calls.specs.Calls.{StoreCall, AreCalled}
 use Rattle.arr_history.specs.declared.cell_state.Seen.{Seen}
 use Rattle.arr_history.specs.declared.event.Event.{Event}
-use Rattle.arr_history.specs.declared.event.Event.TheVariants.{Pin, Miss, Unpin, Read, Claim, Drop, Live, Close, Gone, Back}
+use Rattle.arr_history.specs.declared.event.Event.TheVariants.{Pin, Miss, Unpin, Read, Claim, Drop, Live, Close, Back}
 use Rattle.sole_cache.specs.Cached.{Cached, slot_of}
 use Rattle.sole_cache.specs.Handle.{Handle}
 use Rattle.sole_cache.specs.Moves.{Runs}
 use Rattle.sole_cache.specs.Pieces.{IsHit, IsLook}
-use Rattle.sole_cache.specs.Acquires.{MakesRoom, Loads, Drops, HoldsUp, IsAcquire, Acquires, Quiet, Looks}
-use Rattle.volatile_cell.specs.Steps.{Acquiring, Looking, Reading, Releasing, IsStep, AreSteps, Follows}
-use Rattle.alike_frames.proofs.Parts.{is_end, has_live, IsEnded, is_missing, is_calm, same_tail, same_head, ended_same}
+use Rattle.sole_cache.specs.Acquires.{MakesRoom, Loads, Drops, HoldsUp, IsAcquire, Acquires, Quiet}
+use Rattle.volatile_cell.specs.Steps.{IsStep, AreSteps, Follows}
+use Rattle.alike_frames.proofs.Parts.{is_end, IsEnded, is_missing, is_calm, same_tail, same_head, ended_same}
 
 -- what is known of a cache where a step is one event
 abbrev pub Tells : Cached → Event → Type 0

@@ -1,5 +1,5 @@
 -- What lies under a pixel is one thing.
-use Rattle.std.proofs.Common.{◌≡◌, ◌∙◌, ℕ, ℤ, pos, ◌<◌, List, [], ◌∷◌, map, length, Some, None, slice_get, refl, sym, ap, subst, arith}
+use Rattle.std.proofs.Common.{◌≡◌, ◌∙◌, ℕ, ℤ, pos, ◌<◌, List, [], ◌∷◌, map, length, Some, slice_get, refl, sym, ap, subst, arith}
 use Rattle.std.proofs.lemmas.Option.{slice_get_within}
 use Rattle.voxel_box.specs.Box.{IsWithin}
 use Rattle.cell_grid.specs.declared.level.Level.{Level}
@@ -47,7 +47,7 @@ not_outside levels map level x y cell at o v =
     let shape = same_level levels level v.shape o.shape v.exists o.exists in
     let own = same_level levels level v.voxel.shape o.shape v.voxel.exists o.exists in
     o.outside v.coordinates (v.nearest ∙ ap (λ (s : Level). nearest_voxel map s.factor x y) shape)
-      (subst (λ (s : Level). IsWithin v.coordinates s.extent.dims) own (within v.voxel.shape.extent v.coordinates v.voxel.number at v.voxel.voxel))
+    (subst (λ (s : Level). IsWithin v.coordinates s.extent.dims) own (within v.voxel.shape.extent v.coordinates v.voxel.number at v.voxel.voxel))
 
 -- behind the last level there is no voxel
 pub no_voxel : (levels : List Level) (map : Map) (level x y cell at : ℕ) → level ≡ length levels → HasVoxel levels map level x y cell at → ⊥

@@ -1,6 +1,6 @@
 -- Two caches that steps lead on in the same way.
-use Rattle.std.proofs.Common.{◌≡◌, ◌∙◌, ◌⊎◌, inl, inr, ℕ, ◌<◌, Bool, true, false, List, [], ◌∷◌, ◌++◌, Option, None, Some, Result, refl, sym, ap, subst, subst₂, append_assoc}
-use Rattle.std.specs.declared.result.Result.TheVariants.{Ok, Err}
+use Rattle.std.proofs.Common.{◌≡◌, ◌∙◌, inl, inr, ℕ, ◌<◌, true, List, [], ◌∷◌, ◌++◌, Option, None, Some, Result, refl, sym, ap, subst, subst₂, append_assoc}
+use Rattle.std.specs.declared.result.Result.TheVariants.{Err}
 use Rattle.cell_grid.specs.declared.level.Level.{Level}
 use Rattle.cell_grid.specs.Pyramid.{cells_of}
 use Rattle.cell_file.specs.declared.errors.AcquireErr.{AcquireErr}
@@ -12,13 +12,13 @@ use Rattle.arr_history.specs.declared.event.Event.TheVariants.{Pin, Miss, Unpin,
 use Rattle.sole_cache.specs.Slot.{SlotValue}
 use Rattle.sole_cache.specs.Cached.{Cached, slot_of, state_at}
 use Rattle.sole_cache.specs.Handle.{Handle}
-use Rattle.sole_cache.specs.Acquires.{Acquires, IsAcquire, Quiet}
+use Rattle.sole_cache.specs.Acquires.{Acquires, IsAcquire}
 use Rattle.volatile_cell.specs.Steps.{Follows}
 use Rattle.hier_paint.specs.Sight.{given_back}
 use Rattle.alike_frames.specs.Alike.{AreAlike}
 use Rattle.alike_frames.specs.Laws.{AcquiresAreAlike, ReadsAreAlike, QuietIsAlike}
 use Rattle.alike_frames.proofs.Parts.{IsEnded, is_calm}
-use Rattle.alike_frames.proofs.Peeling.{Tells, BeginsSmall, BeginsLoading, begins_small, begins_missing, begins_loading, nothing_left}
+use Rattle.alike_frames.proofs.Peeling.{BeginsSmall, begins_small, begins_missing, begins_loading}
 
 -- the laws of caches that are alike
 pub record AlikeLaws : Type 0 where
@@ -89,7 +89,7 @@ module _ (laws : AlikeLaws) (z : Ends) where
   pub both_unpin : (c d : Cached) (cell : ℕ) (e f : List Event) → Tandem z c d (Unpin 0 cell ∷ e) (Unpin 0 cell ∷ f) → Onward z e f
   both_unpin c d cell e f t =
       both_small c d (Unpin 0 cell) e f t.calls t.others t.alike t.levels
-        (begins_small c (Unpin 0 cell) e t.calls z.first refl t.follows) (begins_small d (Unpin 0 cell) f t.others z.second refl t.goes) t.fail
+      (begins_small c (Unpin 0 cell) e t.calls z.first refl t.follows) (begins_small d (Unpin 0 cell) f t.others z.second refl t.goes) t.fail
 
   pub both_give_back : (c d : Cached) (held : Option ℕ) (e f : List Event) → Tandem z c d (given_back 0 held ++ e) (given_back 0 held ++ f) → Onward z e f
   both_give_back c d None e f t = record { c = c; d = d; pair = t }
@@ -107,13 +107,13 @@ module _ (laws : AlikeLaws) (z : Ends) where
   pub both_pin : (c d : Cached) (cell : ℕ) (e f : List Event) → Tandem z c d (Pin 0 cell ∷ e) (Pin 0 cell ∷ f) → Onward z e f
   both_pin c d cell e f t =
       both_small c d (Pin 0 cell) e f t.calls t.others t.alike t.levels
-        (begins_small c (Pin 0 cell) e t.calls z.first refl t.follows) (begins_small d (Pin 0 cell) f t.others z.second refl t.goes) t.fail
+      (begins_small c (Pin 0 cell) e t.calls z.first refl t.follows) (begins_small d (Pin 0 cell) f t.others z.second refl t.goes) t.fail
 
   -- both find a cell absent
   pub both_miss : (c d : Cached) (cell : ℕ) (e f : List Event) → is_calm e ≡ true → is_calm f ≡ true → Tandem z c d (Miss 0 cell ∷ e) (Miss 0 cell ∷ f) → Onward z e f
   both_miss c d cell e f calm quiet t =
       both_small c d (Miss 0 cell) e f t.calls t.others t.alike t.levels
-        (begins_missing c (Miss 0 cell) e t.calls z.first calm t.follows) (begins_missing d (Miss 0 cell) f t.others z.second quiet t.goes) t.fail
+      (begins_missing c (Miss 0 cell) e t.calls z.first calm t.follows) (begins_missing d (Miss 0 cell) f t.others z.second quiet t.goes) t.fail
 
   -- two acquires lead on
   after_acquires : (c d mid nid : Cached) (cell : ℕ) (r s : Result Handle AcquireErr) (p q e f : List Event) (k l asked more asked' more' : List StoreCall)
@@ -121,13 +121,16 @@ module _ (laws : AlikeLaws) (z : Ends) where
       → Follows mid e more z.first → Follows nid f more' z.second → FailAlike (k ++ z.left) (l ++ z.other) → (s ≡ r) × (q ≡ p) × Onward z e f
   after_acquires c d mid nid cell r s p q e f k l asked more asked' more' a levels inside acq bcq k_is l_is follows goes fail =
       let joined : FailAlike (asked ++ (more ++ z.left)) (asked' ++ (more' ++ z.other)) =
-            subst₂ FailAlike (ap (λ (v : List StoreCall). v ++ z.left) k_is ∙ append_assoc asked more z.left) (ap (λ (v : List StoreCall). v ++ z.other) l_is ∙ append_assoc asked' more' z.other) fail in
-      let same = laws.acquires c d mid nid cell r s p q asked asked' (more ++ z.left) (more' ++ z.other) a (subst (λ (ls : List Level). cell < cells_of ls) (sym levels) inside) acq bcq joined in
-      (same.0, same.1, record {
-        c = mid;
-        d = nid;
-        pair = record { alike = same.2; levels = acq.runs.moves.levels ∙ levels; calls = more; others = more'; follows = follows; goes = goes; fail = same.3 };
-      })
+      subst₂ FailAlike (ap (λ (v : List StoreCall). v ++ z.left) k_is ∙ append_assoc asked more z.left) (ap (λ (v : List StoreCall). v ++ z.other) l_is ∙ append_assoc asked' more' z.other) fail in
+      let same = laws.acquires c d mid nid cell r s p q asked asked' (more ++ z.left) (more' ++ z.other) a (subst (λ (ls : List Level). cell < cells_of ls) (sym levels) inside) acq bcq joined in (
+        same.0,
+        same.1,
+        record {
+          c = mid;
+          d = nid;
+          pair = record { alike = same.2; levels = acq.runs.moves.levels ∙ levels; calls = more; others = more'; follows = follows; goes = goes; fail = same.3 };
+        },
+      )
 
   pub both_load : (c d : Cached) (cell : ℕ) (p q e f : List Event) → cell < cells_of z.levels → IsEnded p → IsEnded q → Tandem z c d (Miss 0 cell ∷ Claim 0 cell ∷ (p ++ e)) (Miss 0 cell ∷ Claim 0 cell ∷ (q ++ f))
       → (Miss 0 cell ∷ Claim 0 cell ∷ q ≡ Miss 0 cell ∷ Claim 0 cell ∷ p) × Onward z e f
@@ -135,5 +138,5 @@ module _ (laws : AlikeLaws) (z : Ends) where
       let s = begins_loading c cell p e t.calls z.first ended t.follows in
       let u = begins_loading d cell q f t.others z.second stopped t.goes in
       let on = after_acquires c d s.mid u.mid cell s.result u.result (Miss 0 cell ∷ Claim 0 cell ∷ p) (Miss 0 cell ∷ Claim 0 cell ∷ q) e f t.calls t.others s.asked s.more u.asked u.more
-            t.alike t.levels inside s.acquires u.acquires s.calls_are u.calls_are s.follows u.follows t.fail in
+      t.alike t.levels inside s.acquires u.acquires s.calls_are u.calls_are s.follows u.follows t.fail in
       (on.1, on.2)

@@ -1,5 +1,5 @@
 -- Visits of two frames over caches that are alike.
-use Rattle.std.proofs.Common.{◌≡◌, ◌∙◌, ◌⊎◌, inl, inr, ℕ, ◌<◌, Bool, true, false, cond, List, [], ◌∷◌, ◌++◌, Option, None, Some, refl, sym, ap, subst, subst₂, append_assoc, append-nil, true≢false}
+use Rattle.std.proofs.Common.{◌≡◌, ◌∙◌, inl, inr, ℕ, ◌<◌, Bool, true, false, cond, List, [], ◌∷◌, ◌++◌, Option, None, Some, refl, sym, ap, subst, subst₂, append_assoc, append-nil, true≢false}
 use Rattle.cell_grid.specs.declared.level.Level.{Level}
 use Rattle.cell_grid.specs.Pyramid.{cells_of}
 use Rattle.arr_history.specs.declared.event.Event.{Event}
@@ -8,12 +8,12 @@ use Rattle.scale_pick.specs.declared.note.Note.{Note}
 use Rattle.scale_pick.specs.declared.note.Note.TheVariants as note
 use Rattle.sole_cache.specs.Cached.{Cached}
 use Rattle.volatile_cell.specs.Asked.{Asked}
-use Rattle.volatile_cell.specs.Budget.{Allowance, loads_by, spent}
+use Rattle.volatile_cell.specs.Budget.{loads_by, spent}
 use Rattle.hier_paint.specs.Sight.{Sight, holding, missing, given_back}
-use Rattle.hier_paint.specs.Visits.{Visit, IsLookedFor, IsIdle, LooksReady, LooksMissed, Finds, IsVisit, AreVisits}
+use Rattle.hier_paint.specs.Visits.{Visit, IsLookedFor, Finds, IsVisit, AreVisits}
 use Rattle.alike_frames.proofs.Parts.{is_calm}
 use Rattle.alike_frames.proofs.Tandem.{AlikeLaws, Ends, Tandem, Onward, both_give_back, both_read, both_miss}
-use Rattle.alike_frames.proofs.Getting.{Gets, IsReady, ready_of, Refuses, both_get, not_pin_miss, not_miss_pin, not_get_refused, not_refused_get}
+use Rattle.alike_frames.proofs.Getting.{Gets, ready_of, Refuses, both_get, not_pin_miss, not_miss_pin, not_get_refused, not_refused_get}
 
 calm_back : (held : Option ℕ) (events : List Event) → is_calm events ≡ true → is_calm (given_back 0 held ++ events) ≡ true
 calm_back None events h = h
@@ -83,9 +83,11 @@ module _ (laws : AlikeLaws) (z : Ends) (viewer : ℕ) where
   both_missed c d s t u level cell p q e f k l calm quiet (inr h) (inr g) pair =
       let free = given c d s.held h.piece g.piece e f (moved c d p q (given_back 0 s.held ++ h.piece) (given_back 0 s.held ++ g.piece) e f h.events_are g.events_are pair) in
       let on = both_miss laws z free.c free.d cell e f calm quiet (moved free.c free.d h.piece g.piece (event.Miss 0 cell ∷ []) (event.Miss 0 cell ∷ []) e f h.look.missed g.look.missed free.pair) in
-      let same_left : g.left ≡ h.left = g.look.same_budget ∙ sym h.look.same_budget in
-      (g.missed ∙ ap (missing s level cell) same_left ∙ sym h.missed,
-        g.events_are ∙ ap (λ (es : List Event). given_back 0 s.held ++ es) (g.look.missed ∙ sym h.look.missed) ∙ sym h.events_are, on)
+      let same_left : g.left ≡ h.left = g.look.same_budget ∙ sym h.look.same_budget in (
+        g.missed ∙ ap (missing s level cell) same_left ∙ sym h.missed,
+        g.events_are ∙ ap (λ (es : List Event). given_back 0 s.held ++ es) (g.look.missed ∙ sym h.look.missed) ∙ sym h.events_are,
+        on,
+      )
 
   -- not one ready and the other not
   pub not_ready_missed : (c d : Cached) (s t u : Sight) (level cell : ℕ) (p q e f : List Event) (k l : List Asked) → is_calm f ≡ true
@@ -118,7 +120,7 @@ module _ (laws : AlikeLaws) (z : Ends) (viewer : ℕ) where
       let one = ready_of cell s.budget h.loaded h.left h.piece k h.look in
       let back = given_back 0 s.held in
       let whole : Tandem z c d ((back ++ h.piece) ++ e) ((back ++ []) ++ []) =
-            subst₂ (Tandem z c d) (ap (λ (a : List Event). a ++ e) h.events_are) (sym (append-nil (back ++ []) ∙ append-nil back)) pair in
+      subst₂ (Tandem z c d) (ap (λ (a : List Event). a ++ e) h.events_are) (sym (append-nil (back ++ []) ∙ append-nil back)) pair in
       let free = given c d s.held h.piece [] e [] whole in
       not_get_refused laws z free.c free.d cell h.loaded h.piece e inside one.gets free.pair r
 
@@ -129,7 +131,7 @@ module _ (laws : AlikeLaws) (z : Ends) (viewer : ℕ) where
       let one = ready_of cell s.budget h.loaded h.left h.piece k h.look in
       let back = given_back 0 s.held in
       let whole : Tandem z c d ((back ++ []) ++ []) ((back ++ h.piece) ++ e) =
-            subst₂ (Tandem z c d) (sym (append-nil (back ++ []) ∙ append-nil back)) (ap (λ (a : List Event). a ++ e) h.events_are) pair in
+      subst₂ (Tandem z c d) (sym (append-nil (back ++ []) ∙ append-nil back)) (ap (λ (a : List Event). a ++ e) h.events_are) pair in
       let free = given c d s.held [] h.piece [] e whole in
       not_refused_get laws z free.c free.d cell h.loaded h.piece e inside one.gets free.pair r
 

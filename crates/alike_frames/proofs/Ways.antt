@@ -1,5 +1,5 @@
 -- The way of a frame in one order: pixel by pixel, and in a pixel level by level, up to its end.
-use Rattle.std.proofs.Common.{◌≡◌, ◌∙◌, ◌⊎◌, inl, inr, ℕ, zero, suc, ◌+◌, ◌<◌, ◌≤◌, List, [], ◌∷◌, ◌++◌, length, Option, None, Some, slice_index, refl, sym, ap, subst, subst₂, append_assoc, append-nil, eq-or-lt_of_le, le_of_suc-le-suc, arith}
+use Rattle.std.proofs.Common.{◌≡◌, ◌∙◌, ◌⊎◌, inl, inr, ℕ, zero, suc, ◌+◌, ◌<◌, List, [], ◌∷◌, ◌++◌, length, Option, None, Some, slice_index, refl, sym, ap, subst, subst₂, append_assoc, append-nil, eq-or-lt_of_le, le_of_suc-le-suc, arith}
 use Rattle.cell_grid.specs.declared.level.Level.{Level}
 use Rattle.scale_pick.specs.declared.view.View.{View}
 use Rattle.scale_pick.specs.Shade.{shown}
@@ -7,7 +7,7 @@ use Rattle.scale_pick.specs.Pixel.{HasVoxel, IsOutside}
 use Rattle.scale_pick.specs.Picture.{Pixels, place}
 use Rattle.scale_pick.specs.Wanted.{wanted_level}
 use Rattle.hier_paint.specs.Visits.{Visit, reading, skipping}
-use Rattle.hier_paint.specs.Ways.{IsLevelWay, AreSkipped, IsShownWay, IsBlankWay, IsPixelWay, IsRowWay, AreRowWays, IsPixelCut, IsRowCut, IsCut}
+use Rattle.hier_paint.specs.Ways.{IsLevelWay, AreSkipped, IsPixelWay, IsRowWay, AreRowWays, IsPixelCut, IsCut}
 
 -- a column and a row
 pub record Spot : Type 0 where
@@ -67,14 +67,17 @@ module _ (levels : List Level) (view : View) where
       let next : from + suc n ≡ suc (from + n) = omega arith in
       let one : AreLevels s Then (from + n) 1 (skipping (from + n) cell ∷ after) = (cell, at, after, voxel, refl, subst (λ l. Then l after) next h) in
       let joined : first ++ (skipping (from + n) cell ∷ after) ≡ before ++ after =
-            ap (λ (v : List Visit). first ++ (v ++ after)) (sym is) ∙ sym (append_assoc first here after) ∙ ap (λ (v : List Visit). v ++ after) (sym are) in
+      ap (λ (v : List Visit). first ++ (v ++ after)) (sym is) ∙ sym (append_assoc first here after) ∙ ap (λ (v : List Visit). v ++ after) (sym are) in
       one_more s Then from n (before ++ after) (subst (λ (v : List Visit). AreLevels s (λ l w. AreLevels s Then l 1 w) from n v) joined (then_levels s (λ l w. AreLevels s Then l 1 w) from n first (skipping (from + n) cell ∷ after) skipped one))
 
   -- a pixel that is painted, and the rest
   then_pixel : (picture : Pixels) (cut : Option Refused) (s : Spot) (rest : List Spot) (here after : List Visit)
       → IsPixelWay levels view s.x s.y (value_at picture s) (mask_at picture s) here → IsRest picture cut rest after → IsRest picture cut (s ∷ rest) (here ++ after)
-  then_pixel picture cut s rest here after (inl way) h = (way.skipped, subst (λ (v : List Visit). AreLevels s (IsEnd picture s (IsRest picture cut rest) cut) (wanted_level levels view) way.skipped v) joined
-      (then_levels s (IsEnd picture s (IsRest picture cut rest) cut) (wanted_level levels view) way.skipped way.before (way.here ++ after) way.missed (subst (λ l. IsEnd picture s (IsRest picture cut rest) cut l (way.here ++ after)) way.mask_is (shows way.shows))))
+  then_pixel picture cut s rest here after (inl way) h = (
+    way.skipped,
+    subst (λ (v : List Visit). AreLevels s (IsEnd picture s (IsRest picture cut rest) cut) (wanted_level levels view) way.skipped v) joined
+        (then_levels s (IsEnd picture s (IsRest picture cut rest) cut) (wanted_level levels view) way.skipped way.before (way.here ++ after) way.missed (subst (λ l. IsEnd picture s (IsRest picture cut rest) cut l (way.here ++ after)) way.mask_is (shows way.shows))),
+  )
     where
       joined : way.before ++ (way.here ++ after) ≡ here ++ after
       joined = sym (append_assoc way.before way.here after) ∙ ap (λ (v : List Visit). v ++ after) (sym way.visits_are)
@@ -113,9 +116,11 @@ module _ (levels : List Level) (view : View) where
   then_cut picture s rest visits level cell cut =
       let fate : Option Refused = Some (record { level = level; cell = cell }) in
       let End : ℕ → List Visit → Type 0 = IsEnd picture s (IsRest picture fate rest) fate in
-      let end : End level [] = refused cell cut.at cut.voxel refl refl in
-      (cut.skipped, subst (λ (v : List Visit). AreLevels s End (wanted_level levels view) cut.skipped v) (append-nil visits)
-        (then_levels s End (wanted_level levels view) cut.skipped visits [] cut.missed (subst (λ l. End l []) cut.level_is end)))
+      let end : End level [] = refused cell cut.at cut.voxel refl refl in (
+        cut.skipped,
+        subst (λ (v : List Visit). AreLevels s End (wanted_level levels view) cut.skipped v) (append-nil visits)
+            (then_levels s End (wanted_level levels view) cut.skipped visits [] cut.missed (subst (λ l. End l []) cut.level_is end)),
+      )
 
 -- a row is its pixels up to one, and the others
 pub row_split : (y x width : ℕ) → x < width → (rest : List Spot) × (row_spots y width ≡ row_spots y x ++ record { x = x; y = y } ∷ rest)
@@ -139,9 +144,11 @@ rows_split width y (suc height) lt = go (eq-or-lt_of_le (le_of_suc-le-suc lt)) (
   where
     go : (y ≡ height) ⊎ (y < height) → (y < height → (rest : List Spot) × (spots width height ≡ spots width y ++ (row_spots y width ++ rest))) → (rest : List Spot) × (spots width (suc height) ≡ spots width y ++ (row_spots y width ++ rest))
     go (inl same) more = ([], ap (λ n. spots width n ++ row_spots n width) (sym same) ∙ ap (λ (s : List Spot). spots width y ++ s) (sym (append-nil (row_spots y width))))
-    go (inr below) more = let had = more below in
-        (had.0 ++ row_spots height width, ap (λ (s : List Spot). s ++ row_spots height width) had.1
-          ∙ append_assoc (spots width y) (row_spots y width ++ had.0) (row_spots height width) ∙ ap (λ (s : List Spot). spots width y ++ s) (append_assoc (row_spots y width) had.0 (row_spots height width)))
+    go (inr below) more = let had = more below in (
+      had.0 ++ row_spots height width,
+      ap (λ (s : List Spot). s ++ row_spots height width) had.1
+          ∙ append_assoc (spots width y) (row_spots y width ++ had.0) (row_spots height width) ∙ ap (λ (s : List Spot). spots width y ++ s) (append_assoc (row_spots y width) had.0 (row_spots height width)),
+    )
 
 -- a picture that is cut off
 pub cut_way : (levels : List Level) (view : View) (picture : Pixels) (visits : List Visit) (level cell : ℕ) → IsCut levels view picture visits level cell
@@ -156,6 +163,6 @@ cut_way levels view picture visits level cell cut =
     let in_row = then_row levels view picture fate cut.y row.x (spot ∷ (columns.0 ++ rows.0)) row.before row.here row.painted end in
     let whole = then_rows levels view picture fate cut.y (row_spots cut.y row.x ++ (spot ∷ (columns.0 ++ rows.0))) cut.before (row.before ++ row.here) cut.painted in
     let the_spots : spots picture.width cut.y ++ (row_spots cut.y row.x ++ (spot ∷ (columns.0 ++ rows.0))) ≡ spots picture.width picture.height =
-          ap (λ (s : List Spot). spots picture.width cut.y ++ s) (sym (append_assoc (row_spots cut.y row.x) (spot ∷ columns.0) rows.0) ∙ ap (λ (s : List Spot). s ++ rows.0) (sym columns.1)) ∙ sym rows.1 in
+    ap (λ (s : List Spot). spots picture.width cut.y ++ s) (sym (append_assoc (row_spots cut.y row.x) (spot ∷ columns.0) rows.0) ∙ ap (λ (s : List Spot). s ++ rows.0) (sym columns.1)) ∙ sym rows.1 in
     let the_visits : cut.before ++ (row.before ++ row.here) ≡ visits = ap (λ (v : List Visit). cut.before ++ v) (sym row.visits_are) ∙ sym cut.visits_are in
     subst₂ (IsRest levels view picture fate) the_spots the_visits (whole in_row)

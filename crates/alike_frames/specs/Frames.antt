@@ -1,5 +1,5 @@
 -- Frames over caches that are alike.
-use Rattle.std.specs.Prelude.{◌≡◌, ℕ, ◌<◌, List, [], ◌∷◌, ◌++◌, Option, None, Some, Result, slice_index}
+use Rattle.std.specs.Prelude.{◌≡◌, ℕ, ◌<◌, List, ◌++◌, Option, None, Some, slice_index}
 use Rattle.std.specs.declared.result.Result.TheVariants.{Err}
 use Rattle.cell_grid.specs.declared.level.Level.{Level}
 use Rattle.cell_file.specs.declared.errors.AcquireErr.{AcquireErr}
@@ -42,15 +42,15 @@ pub record CutsOff (c : Cached) (viewer : ℕ) (view : View) (picture : Pixels) 
   pub calls_are : calls ≡ before ++ asked
 
 -- a frame, by its refusal, if there was one
-abbrev pub Frames : Cached → ℕ → View → Pixels → Option AcquireErr → List Event → List StoreCall → Cached → Type 0
-Frames c viewer view picture None events calls d = Paints c viewer view picture events calls d
-Frames c viewer view picture (Some err) events calls d = CutsOff c viewer view picture err events calls d
+abbrev pub MakesFrame : Cached → ℕ → View → Pixels → Option AcquireErr → List Event → List StoreCall → Cached → Type 0
+MakesFrame c viewer view picture None events calls d = Paints c viewer view picture events calls d
+MakesFrame c viewer view picture (Some err) events calls d = CutsOff c viewer view picture err events calls d
 
 -- From caches that are alike, frames of the same view whose calls of the stores fail alike are both painted, with the same pixels, or both
 -- refused for the same cause; their events are the same, and they lead to caches that are alike.
 abbrev pub FramesAreAlike : Type 0
 FramesAreAlike = (c d c' d' : Cached) (viewer : ℕ) (view : View) (picture other : Pixels) (r s : Option AcquireErr) (e f : List Event) (k l m n : List StoreCall)
-    → AreAlike c d → Frames c viewer view picture r e k c' → Frames d viewer view other s f l d' → FailAlike (k ++ m) (l ++ n)
+    → AreAlike c d → MakesFrame c viewer view picture r e k c' → MakesFrame d viewer view other s f l d' → FailAlike (k ++ m) (l ++ n)
     → (s ≡ r) × (f ≡ e) × (r ≡ None → ShowSame picture other) × AreAlike c' d' × FailAlike m n
 
 -- Frames with the same events ask a queue the same.

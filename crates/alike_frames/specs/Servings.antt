@@ -1,5 +1,5 @@
 -- Servings of one queue over caches that are alike.
-use Rattle.std.specs.Prelude.{◌≡◌, ℕ, ◌<◌, Bool, true, false, List, [], ◌∷◌, ◌++◌, Option, None, Some, Result}
+use Rattle.std.specs.Prelude.{◌≡◌, ℕ, ◌<◌, Bool, true, false, List, [], ◌∷◌, ◌++◌, None, Some, Result}
 use Rattle.std.specs.declared.result.Result.TheVariants.{Err}
 use Rattle.cell_grid.specs.Pyramid.{cells_of}
 use Rattle.cell_file.specs.declared.errors.AcquireErr.{AcquireErr}
