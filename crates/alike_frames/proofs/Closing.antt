@@ -14,7 +14,7 @@ use Rattle.volatile_cell.specs.Steps.{Follows}
 use Rattle.hier_paint.specs.Sight.{opening}
 use Rattle.hier_paint.specs.Visits.{Visit}
 use Rattle.hier_paint.specs.Frames.{IsVisited, IsVisitedTo}
-use Rattle.alike_frames.specs.Alike.{AreAlike}
+use Rattle.alike_caches.specs.Alike.{AreAlike}
 use Rattle.alike_frames.specs.Frames.{ShowSame, MakesFrame, FramesAreAlike}
 use Rattle.alike_frames.proofs.Tandem.{AlikeLaws, Ends, Tandem}
 use Rattle.alike_frames.proofs.Ways.{Spot, Refused, spots, row_spots, value_at, mask_at, IsRest, whole_way, cut_way}

@@ -12,7 +12,7 @@ use Rattle.fetchers.specs.declared.served.Served.{Served}
 use Rattle.fetchers.specs.declared.served.Served.TheVariants.{Idle, Refused}
 use Rattle.fetchers.specs.declared.fetched.Fetched.{Fetched}
 use Rattle.fetchers.specs.Servings.{goes_on, IsAnswer}
-use Rattle.alike_frames.specs.Alike.{AreAlike}
+use Rattle.alike_caches.specs.Alike.{AreAlike}
 use Rattle.alike_frames.specs.Servings.{ServesAll, FetchesAreAlike}
 use Rattle.alike_frames.proofs.Tandem.{AlikeLaws}
 use Rattle.alike_frames.proofs.Serving.{servings_are_alike}

@@ -12,7 +12,7 @@ use Rattle.sole_cache.specs.Cached.{Cached}
 use Rattle.volatile_cell.specs.Budget.{loads_by}
 use Rattle.hier_paint.specs.Sight.{Sight}
 use Rattle.hier_paint.specs.Visits.{Visit, reading, skipping, IsLookedFor}
-use Rattle.alike_frames.specs.Alike.{AreAlike}
+use Rattle.alike_caches.specs.Alike.{AreAlike}
 use Rattle.alike_frames.proofs.Tandem.{AlikeLaws, Ends, Tandem}
 use Rattle.alike_frames.proofs.Getting.{Refuses}
 use Rattle.alike_frames.proofs.Visiting.{both_missed, both_visit, not_ready_missed, not_missed_ready, not_ready_cut, not_cut_ready, not_missed_cut}

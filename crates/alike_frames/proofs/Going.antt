@@ -8,7 +8,7 @@ use Rattle.volatile_cell.specs.Asked.{Asked}
 use Rattle.volatile_cell.specs.Budget.{loads_by}
 use Rattle.hier_paint.specs.Sight.{Sight, given_back}
 use Rattle.hier_paint.specs.Visits.{Visit, IsLookedFor, IsVisit, AreVisits}
-use Rattle.alike_frames.specs.Alike.{AreAlike}
+use Rattle.alike_caches.specs.Alike.{AreAlike}
 use Rattle.alike_frames.proofs.Parts.{is_calm}
 use Rattle.alike_frames.proofs.Peeling.{nothing_left}
 use Rattle.alike_frames.proofs.Tandem.{AlikeLaws, Ends, Tandem, both_give_back}

@@ -15,7 +15,7 @@ use Rattle.volatile_cell.specs.declared.queue_reply.QueueReply.TheVariants as re
 use Rattle.fetchers.specs.declared.served.Served.{Served}
 use Rattle.fetchers.specs.declared.served.Served.TheVariants.{Idle, Held, Loaded, Refused}
 use Rattle.fetchers.specs.Servings.{taking}
-use Rattle.alike_frames.specs.Alike.{AreAlike}
+use Rattle.alike_caches.specs.Alike.{AreAlike}
 use Rattle.alike_frames.specs.Servings.{Rests, Grants, Refuses, ServingsAreAlike}
 use Rattle.alike_frames.proofs.Tandem.{AlikeLaws, Ends, Tandem, both_unpin}
 use Rattle.alike_frames.proofs.Getting as getting

@@ -20,7 +20,7 @@ use Rattle.fetchers.specs.declared.served.Served.{Served}
 use Rattle.fetchers.specs.declared.served.Served.TheVariants.{Idle, Held, Loaded, Refused}
 use Rattle.fetchers.specs.declared.fetched.Fetched.{Fetched}
 use Rattle.fetchers.specs.Servings.{IsGrantedServing, IsRefusedServing, IsServing, AreServings, IsAnswer}
-use Rattle.alike_frames.specs.Alike.{AreAlike}
+use Rattle.alike_caches.specs.Alike.{AreAlike}
 use Rattle.alike_frames.specs.Frames.{ShowSame, Paints, CutsOff}
 use Rattle.alike_frames.specs.Servings.{Grants, Refuses, Serves, ServesAll}
 use Rattle.alike_frames.proofs.Tandem.{AlikeLaws}

@@ -15,8 +15,10 @@ use Rattle.sole_cache.specs.Handle.{Handle}
 use Rattle.sole_cache.specs.Acquires.{Acquires, IsAcquire}
 use Rattle.volatile_cell.specs.Steps.{Follows}
 use Rattle.hier_paint.specs.Sight.{given_back}
-use Rattle.alike_frames.specs.Alike.{AreAlike}
-use Rattle.alike_frames.specs.Laws.{AcquiresAreAlike, ReadsAreAlike, QuietIsAlike}
+use Rattle.alike_caches.specs.Alike.{AreAlike}
+use Rattle.arr_history.specs.Tally.{is_writeback}
+use Rattle.std.specs.List.{list_any}
+use Rattle.alike_caches.specs.Laws.{AcquiresAreAlike, ReadsAreAlike, QuietIsAlike}
 use Rattle.alike_frames.proofs.Parts.{IsEnded, is_calm}
 use Rattle.alike_frames.proofs.Peeling.{BeginsSmall, begins_small, begins_missing, begins_loading}
 
@@ -69,13 +71,13 @@ refused_absent c cell err events calls (inr held) = held.absent
 
 module _ (laws : AlikeLaws) (z : Ends) where
   -- two steps of the same event
-  both_small : (c d : Cached) (x : Event) (e f : List Event) (k l : List StoreCall) → AreAlike c d → c.levels ≡ z.levels → BeginsSmall c x e k z.first → BeginsSmall d x f l z.second
+  both_small : (c d : Cached) (x : Event) (e f : List Event) (k l : List StoreCall) → list_any is_writeback (x ∷ []) ≡ false → AreAlike c d → c.levels ≡ z.levels → BeginsSmall c x e k z.first → BeginsSmall d x f l z.second
       → FailAlike (k ++ z.left) (l ++ z.other) → Onward z e f
-  both_small c d x e f k l a levels s t fail = record {
+  both_small c d x e f k l calm a levels s t fail = record {
     c = s.mid;
     d = t.mid;
     pair = record {
-      alike = laws.quiet c d s.mid t.mid (x ∷ []) a s.quiet t.quiet;
+      alike = laws.quiet c d s.mid t.mid (x ∷ []) calm a s.quiet t.quiet;
       levels = s.quiet.runs.moves.levels ∙ levels;
       calls = k;
       others = l;
@@ -88,7 +90,7 @@ module _ (laws : AlikeLaws) (z : Ends) where
   -- both give a cell back
   pub both_unpin : (c d : Cached) (cell : ℕ) (e f : List Event) → Tandem z c d (Unpin 0 cell ∷ e) (Unpin 0 cell ∷ f) → Onward z e f
   both_unpin c d cell e f t =
-      both_small c d (Unpin 0 cell) e f t.calls t.others t.alike t.levels
+      both_small c d (Unpin 0 cell) e f t.calls t.others refl t.alike t.levels
       (begins_small c (Unpin 0 cell) e t.calls z.first refl t.follows) (begins_small d (Unpin 0 cell) f t.others z.second refl t.goes) t.fail
 
   pub both_give_back : (c d : Cached) (held : Option ℕ) (e f : List Event) → Tandem z c d (given_back 0 held ++ e) (given_back 0 held ++ f) → Onward z e f
@@ -101,18 +103,18 @@ module _ (laws : AlikeLaws) (z : Ends) where
       let s = begins_small c (Read 0 cell at x) e t.calls z.first refl t.follows in
       let u = begins_small d (Read 0 cell at y) f t.others z.second refl t.goes in
       let same : y ≡ x = laws.reads c d s.mid u.mid cell at x y t.alike s.quiet u.quiet in
-      (same, both_small c d (Read 0 cell at x) e f t.calls t.others t.alike t.levels s (subst (λ n. BeginsSmall d (Read 0 cell at n) f t.others z.second) same u) t.fail)
+      (same, both_small c d (Read 0 cell at x) e f t.calls t.others refl t.alike t.levels s (subst (λ n. BeginsSmall d (Read 0 cell at n) f t.others z.second) same u) t.fail)
 
   -- both find a cell live
   pub both_pin : (c d : Cached) (cell : ℕ) (e f : List Event) → Tandem z c d (Pin 0 cell ∷ e) (Pin 0 cell ∷ f) → Onward z e f
   both_pin c d cell e f t =
-      both_small c d (Pin 0 cell) e f t.calls t.others t.alike t.levels
+      both_small c d (Pin 0 cell) e f t.calls t.others refl t.alike t.levels
       (begins_small c (Pin 0 cell) e t.calls z.first refl t.follows) (begins_small d (Pin 0 cell) f t.others z.second refl t.goes) t.fail
 
   -- both find a cell absent
   pub both_miss : (c d : Cached) (cell : ℕ) (e f : List Event) → is_calm e ≡ true → is_calm f ≡ true → Tandem z c d (Miss 0 cell ∷ e) (Miss 0 cell ∷ f) → Onward z e f
   both_miss c d cell e f calm quiet t =
-      both_small c d (Miss 0 cell) e f t.calls t.others t.alike t.levels
+      both_small c d (Miss 0 cell) e f t.calls t.others refl t.alike t.levels
       (begins_missing c (Miss 0 cell) e t.calls z.first calm t.follows) (begins_missing d (Miss 0 cell) f t.others z.second quiet t.goes) t.fail
 
   -- two acquires lead on

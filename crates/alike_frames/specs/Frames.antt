@@ -13,7 +13,7 @@ use Rattle.sole_cache.specs.Acquires.{Acquires}
 use Rattle.volatile_cell.specs.Asked.{Asked, AskedFrom}
 use Rattle.volatile_cell.specs.Steps.{Follows}
 use Rattle.hier_paint.specs.Frames.{KeepsRule, IsVisited, IsVisitedTo}
-use Rattle.alike_frames.specs.Alike.{AreAlike}
+use Rattle.alike_caches.specs.Alike.{AreAlike}
 
 -- two pictures of one size that show the same
 pub record ShowSame (p q : Pixels) : Type 0 where

@@ -1,4 +1,2 @@
-pub mod Alike
-pub mod Laws
 pub mod Frames
 pub mod Servings

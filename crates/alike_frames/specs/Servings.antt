@@ -17,7 +17,7 @@ use Rattle.fetchers.specs.declared.served.Served.{Served}
 use Rattle.fetchers.specs.declared.served.Served.TheVariants.{Idle, Held, Loaded, Refused}
 use Rattle.fetchers.specs.declared.fetched.Fetched.{Fetched}
 use Rattle.fetchers.specs.Servings.{taking, IsAnswer}
-use Rattle.alike_frames.specs.Alike.{AreAlike}
+use Rattle.alike_caches.specs.Alike.{AreAlike}
 
 -- The queue gave a request, whose cell is one of the cache's.
 pub record Takes (c : Cached) (q : Queue) (request : Request) (asked : List Asked) (r : Queue) : Type 0 where

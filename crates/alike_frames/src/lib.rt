@@ -2,7 +2,7 @@
 //! the stores hold, and of which of their calls fail. There is no code to run here.
 #![tactic(auto)]
 
-ghost use Rattle.alike_frames.specs.Laws.{AcquiresAreAlike, ReadsAreAlike, QuietIsAlike};
+ghost use Rattle.alike_caches.specs.Laws.{AcquiresAreAlike, ReadsAreAlike, QuietIsAlike};
 ghost use Rattle.alike_frames.specs.Frames.{FramesAreAlike, FramesAskAlike, PicturesAreOne};
 ghost use Rattle.alike_frames.specs.Servings.{ServingsAreAlike, FetchesAreAlike};
 
