@@ -1,3 +1,5 @@
+mod AskLemmas
+mod DecideLemmas
 mod GetLemmas
 pub mod LoopLemmas
 pub mod Prefixes
