@@ -51,6 +51,9 @@ acquired c cell (Err err) events p = refused c cell err events p
 pub on_true : (t : Bool) (P Q : Type 0) → t ≡ true → P → MatchBool t P Q
 on_true t P Q e p = subst (λ b. MatchBool b P Q) (sym e) p
 
+pub on_false : (t : Bool) (P Q : Type 0) → t ≡ false → Q → MatchBool t P Q
+on_false t P Q e q = subst (λ b. MatchBool b P Q) (sym e) q
+
 -- a run of a cache
 pub leads_by_run : (a b : Cached) (p : List Event) → Runs a p b → Leads a p b
 leads_by_run a b p r = record { moves = r.moves; tally = λ _. r.tally }
