@@ -12,4 +12,4 @@ pub mod Asking
 pub mod Serving
 pub mod Fetching
 pub mod Refusing
-pub mod Taken
+pub mod OverEyes

@@ -1,5 +1,5 @@
 -- The events of a refused acquire are one thing.
-use Rattle.std.proofs.Common.{◌≡◌, ◌∙◌, ◌⊎◌, inl, inr, ℕ, suc, ◌<◌, ◌==◌, Bool, true, false, cond, List, [], ◌∷◌, ◌++◌, Option, None, Some, Result, refl, sym, ap, subst, subst₂, append-nil, true≢false, arith}
+use Rattle.std.proofs.Common.{◌≡◌, ◌∙◌, ◌⊎◌, inl, inr, ℕ, suc, ◌==◌, Bool, true, false, cond, List, [], ◌∷◌, ◌++◌, Some, Result, refl, sym, ap, subst, subst₂, append-nil, true≢false, arith}
 use Rattle.std.proofs.lemmas.Bool.Decides.{nat_tests}
 use Rattle.std.specs.declared.result.Result.TheVariants.{Ok, Err}
 use Rattle.cell_file.specs.declared.errors.AcquireErr.{AcquireErr}
@@ -9,7 +9,7 @@ use Rattle.arr_history.specs.declared.cell_state.CellState.{CellState}
 use Rattle.arr_history.specs.declared.cell_state.CellState.TheVariants as state
 use Rattle.arr_history.specs.declared.event.Event.{Event}
 use Rattle.arr_history.specs.declared.event.Event.TheVariants.{Miss, Claim, Drop, Close, Gone, Back, Live}
-use Rattle.arr_history.specs.State.{State, with_at}
+use Rattle.arr_history.specs.State.{State}
 use Rattle.arr_history.specs.Shape.{Shape}
 use Rattle.arr_history.specs.Next.{leaving, returned}
 use Rattle.arr_history.specs.Legal.{IsLive, IsLeaving}
@@ -23,7 +23,7 @@ use Rattle.sole_cache.specs.Acquires.{MakesRoom, Loads, Drops, HoldsUp, IsAcquir
 use Rattle.volatile_cell.specs.Pieces.{misses, IsTurnOut, IsDropped, IsHeldUp, IsRefused}
 use Rattle.volatile_cell.specs.Steps.{Follows}
 use Rattle.alike_frames.proofs.Parts.{IsEnded, has_live}
-use Rattle.alike_frames.proofs.Peeling.{BeginsLoading, begins_loading, nothing_left}
+use Rattle.alike_frames.proofs.Peeling.{begins_loading, nothing_left}
 
 one_victim : (c : Cached) (slot slot' v v' : ℕ) → IsVictim c slot v → IsVictim c slot' v' → (slot' ≡ slot) × (v' ≡ v)
 one_victim c slot slot' v v' h g =
@@ -87,10 +87,10 @@ not_gone_back c d n err cause e f k l drop held went came = go drop.room drop.ev
     go (inr out) is =
         let v = (one_victim c held.slot drop.slot held.due out.0 held.victim out.1).1 in
         let events : e ≡ Miss 0 n ∷ Claim 0 n ∷ Close 0 held.due ∷ Gone 0 held.due (slot_at c drop.slot).marked ∷ Drop 0 n ∷ [] =
-              is ∙ ap (λ (t : List Event). Miss 0 n ∷ Claim 0 n ∷ (t ++ Drop 0 n ∷ [])) out.2 ∙ ap (λ i. Miss 0 n ∷ Claim 0 n ∷ Close 0 i ∷ Gone 0 i (slot_at c drop.slot).marked ∷ Drop 0 n ∷ []) v in
+        is ∙ ap (λ (t : List Event). Miss 0 n ∷ Claim 0 n ∷ (t ++ Drop 0 n ∷ [])) out.2 ∙ ap (λ i. Miss 0 n ∷ Claim 0 n ∷ Close 0 i ∷ Gone 0 i (slot_at c drop.slot).marked ∷ Drop 0 n ∷ []) v in
         let runs : Runs c (Miss 0 n ∷ Claim 0 n ∷ Close 0 held.due ∷ Gone 0 held.due (slot_at c drop.slot).marked ∷ Drop 0 n ∷ []) d = subst (λ (es : List Event). Runs c es d) events went in
         let absent : is_live_state ((state_of d).cells held.due) ≡ false =
-              sym (ap is_live_state (runs.moves.led.reached.cells held.due)) ∙ gone_absent (state_of c) n held.due (slot_at c drop.slot).marked in
+        sym (ap is_live_state (runs.moves.led.reached.cells held.due)) ∙ gone_absent (state_of c) n held.due (slot_at c drop.slot).marked in
         true≢false (sym live ∙ absent)
 
 -- two ways from one cache to another by a refused acquire have the same events
