@@ -11,4 +11,5 @@ pub mod Closing
 pub mod Asking
 pub mod Serving
 pub mod Fetching
-pub mod Taken
+pub mod Refusing
+pub mod OverEyes

@@ -1,5 +1,5 @@
 -- Frames over caches that are alike.
-use Rattle.std.specs.Prelude.{◌≡◌, ℕ, ◌<◌, List, ◌++◌, Option, None, Some, slice_index}
+use Rattle.std.specs.Prelude.{◌≡◌, ℕ, ◌<◌, List, [], ◌++◌, Option, None, Some, slice_index}
 use Rattle.std.specs.declared.result.Result.TheVariants.{Err}
 use Rattle.cell_grid.specs.declared.level.Level.{Level}
 use Rattle.cell_file.specs.declared.errors.AcquireErr.{AcquireErr}
@@ -29,29 +29,28 @@ pub record Paints (c : Cached) (viewer : ℕ) (view : View) (picture : Pixels) (
   pub visited : IsVisited 0 viewer c.levels view picture events
   pub follows : Follows c events calls d
 
--- A frame was cut off by a look that was refused, after these events.
-pub record CutsOff (c : Cached) (viewer : ℕ) (view : View) (picture : Pixels) (err : AcquireErr) (events : List Event) (calls : List StoreCall) (d : Cached) : Type 0 where
+-- A frame was cut off, after these events, by a look that was refused, with its own events.
+pub record CutsOff (c : Cached) (viewer : ℕ) (view : View) (picture : Pixels) (err : AcquireErr) (events piece : List Event) (calls : List StoreCall) (d : Cached) : Type 0 where
   pub cell : ℕ
   pub visited : IsVisitedTo 0 viewer c.levels view picture cell events
   pub between : Cached
   pub before : List StoreCall
   pub follows : Follows c events before between
-  pub piece : List Event
   pub asked : List StoreCall
   pub acquires : Acquires between cell (Err err) piece asked d
   pub calls_are : calls ≡ before ++ asked
 
 -- a frame, by its refusal, if there was one
-abbrev pub MakesFrame : Cached → ℕ → View → Pixels → Option AcquireErr → List Event → List StoreCall → Cached → Type 0
-MakesFrame c viewer view picture None events calls d = Paints c viewer view picture events calls d
-MakesFrame c viewer view picture (Some err) events calls d = CutsOff c viewer view picture err events calls d
+abbrev pub MakesFrame : Cached → ℕ → View → Pixels → Option AcquireErr → List Event → List Event → List StoreCall → Cached → Type 0
+MakesFrame c viewer view picture None events piece calls d = Paints c viewer view picture events calls d × (piece ≡ [])
+MakesFrame c viewer view picture (Some err) events piece calls d = CutsOff c viewer view picture err events piece calls d
 
 -- From caches that are alike, frames of the same view whose calls of the stores fail alike are both painted, with the same pixels, or both
--- refused for the same cause; their events are the same, and they lead to caches that are alike.
+-- refused for the same cause; all their events are the same, and they lead to caches that are alike.
 abbrev pub FramesAreAlike : Type 0
-FramesAreAlike = (c d c' d' : Cached) (viewer : ℕ) (view : View) (picture other : Pixels) (r s : Option AcquireErr) (e f : List Event) (k l m n : List StoreCall)
-    → AreAlike c d → MakesFrame c viewer view picture r e k c' → MakesFrame d viewer view other s f l d' → FailAlike (k ++ m) (l ++ n)
-    → (s ≡ r) × (f ≡ e) × (r ≡ None → ShowSame picture other) × AreAlike c' d' × FailAlike m n
+FramesAreAlike = (c d c' d' : Cached) (viewer : ℕ) (view : View) (picture other : Pixels) (r s : Option AcquireErr) (e f p q : List Event) (k l m n : List StoreCall)
+    → AreAlike c d → MakesFrame c viewer view picture r e p k c' → MakesFrame d viewer view other s f q l d' → FailAlike (k ++ m) (l ++ n)
+    → (s ≡ r) × (f ≡ e) × (q ≡ p) × (r ≡ None → ShowSame picture other) × AreAlike c' d' × FailAlike m n
 
 -- Frames with the same events ask a queue the same.
 abbrev pub FramesAskAlike : Type 0
