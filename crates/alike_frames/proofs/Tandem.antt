@@ -1,5 +1,5 @@
 -- Two caches that steps lead on in the same way.
-use Rattle.std.proofs.Common.{◌≡◌, ◌∙◌, inl, inr, ℕ, ◌<◌, true, List, [], ◌∷◌, ◌++◌, Option, None, Some, Result, refl, sym, ap, subst, subst₂, append_assoc}
+use Rattle.std.proofs.Common.{◌≡◌, ◌∙◌, inl, inr, ℕ, ◌<◌, true, false, List, [], ◌∷◌, ◌++◌, Option, None, Some, Result, refl, sym, ap, subst, subst₂, append_assoc}
 use Rattle.std.specs.declared.result.Result.TheVariants.{Err}
 use Rattle.cell_grid.specs.declared.level.Level.{Level}
 use Rattle.cell_grid.specs.Pyramid.{cells_of}

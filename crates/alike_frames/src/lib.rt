@@ -2,14 +2,19 @@
 //! the stores hold, and of which of their calls fail. There is no code to run here.
 #![tactic(auto)]
 
-ghost use Rattle.alike_caches.specs.Laws.{AcquiresAreAlike, ReadsAreAlike, QuietIsAlike};
 ghost use Rattle.alike_frames.specs.Frames.{FramesAreAlike, FramesAskAlike, PicturesAreOne};
 ghost use Rattle.alike_frames.specs.Servings.{ServingsAreAlike, FetchesAreAlike};
 
+use alike_caches::{acquires_are_alike, quiet_is_alike, reads_are_alike};
+
 /// Frames of one view show the same, or are cut off for the same cause, and lead to caches that are alike.
 pub fn frames_are_alike()
-    ensures { AcquiresAreAlike → ReadsAreAlike → QuietIsAlike → FramesAreAlike }
-{}
+    ensures { FramesAreAlike }
+{
+    acquires_are_alike();
+    reads_are_alike();
+    quiet_is_alike();
+}
 
 /// Frames with the same events ask the queue the same.
 pub fn frames_ask_alike()
@@ -23,10 +28,18 @@ pub fn pictures_are_one()
 
 /// Servings of one queue come to the same, and lead to caches that are alike.
 pub fn servings_are_alike()
-    ensures { AcquiresAreAlike → ReadsAreAlike → QuietIsAlike → ServingsAreAlike }
-{}
+    ensures { ServingsAreAlike }
+{
+    acquires_are_alike();
+    reads_are_alike();
+    quiet_is_alike();
+}
 
 /// So do fetches, with the same answer.
 pub fn fetches_are_alike()
-    ensures { AcquiresAreAlike → ReadsAreAlike → QuietIsAlike → FetchesAreAlike }
-{}
+    ensures { FetchesAreAlike }
+{
+    acquires_are_alike();
+    reads_are_alike();
+    quiet_is_alike();
+}
