@@ -13,7 +13,7 @@ use Rattle.store_calls.specs.Calls.{StoreCall}
 use Rattle.volatile_cell.specs.Asked.{Asked}
 use Rattle.team_run.specs.Desk.{Desk, DeskFollows, IsDeskRefusal, levels_at}
 
--- Its servings, one after another, each with its events and its call of the queue.
+-- A serving, and servings one after another, each with its events and its call of the queue.
 abbrev pub IsDeskServing : Desk → Served → List Event → List Asked → Desk → Type 0
 IsDeskServing old serving events calls new = IsServing DeskFollows levels_at (λ _. 0) IsDeskRefusal old serving events calls new
 

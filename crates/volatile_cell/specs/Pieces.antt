@@ -14,8 +14,7 @@ misses k cell n = replicate n (Miss k cell)
 abbrev pub IsTurnOut : ℕ → List Event → Type 0
 IsTurnOut k events = (events ≡ []) ⊎ ((v : ℕ) × (saved : Bool) × (events ≡ Close k v ∷ Gone k v saved ∷ []))
 
--- A cell is pinned, where it is live; or it is loaded, after at least one miss. Here and below, a pass of number 0 has its cache to itself,
--- so it misses no cell before it pins it, and once before it claims it.
+-- A cell is pinned, where it is live; or it is loaded, after at least one miss. A pass of number 0 has its cache to itself, and misses once at most.
 abbrev pub IsGranted : ℕ → ℕ → Bool → List Event → Type 0
 IsGranted k cell false events = (n : ℕ) × (k ≡ 0 → n ≡ 0) × (events ≡ misses k cell n ++ Pin k cell ∷ [])
 IsGranted k cell true events = (n : ℕ) × (k ≡ 0 → n ≡ 0) × (slot : ℕ) × (turn : List Event) × IsTurnOut k turn × (events ≡ misses k cell (suc n) ++ (Claim k cell ∷ (turn ++ Live k cell slot ∷ [])))
