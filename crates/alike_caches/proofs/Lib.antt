@@ -1,1 +1,10 @@
-
+pub mod Seats
+pub mod Marks
+pub mod After
+pub mod Looking
+pub mod Asking
+pub mod Rooms
+pub mod Courses
+pub mod Acquiring
+pub mod Voxels
+pub mod Shutting

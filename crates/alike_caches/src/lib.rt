@@ -2,7 +2,7 @@
 //! calls fail. There is no code to run here.
 #![tactic(auto)]
 
-ghost use Rattle.alike_caches.specs.Laws.{AcquiresAreAlike, LooksAreAlike, ReadsAreAlike, QuietIsAlike, GetsAreAlike, SetsAreAlike};
+ghost use Rattle.alike_caches.specs.Laws.{AcquiresAreAlike, LooksAreAlike, ReadsAreAlike, QuietIsAlike, GetsAreAlike, SetsAreAlike, ShutsAreAlike};
 
 /// Acquires of a cell give the same answer by the same events, and leave caches that are alike.
 pub fn acquires_are_alike()
@@ -19,7 +19,7 @@ pub fn reads_are_alike()
     ensures { ReadsAreAlike }
 {}
 
-/// The same events leave caches that are alike, where no store is asked.
+/// The same events leave caches that are alike, where no store is asked and no cell leaves with a put.
 pub fn quiet_is_alike()
     ensures { QuietIsAlike }
 {}
@@ -32,4 +32,9 @@ pub fn gets_are_alike()
 /// So do sets.
 pub fn sets_are_alike()
     ensures { SetsAreAlike }
+{}
+
+/// The puts by which caches are shut name the same cells, and leave stores that hold the same but under the keys of those.
+pub fn shuts_are_alike()
+    ensures { ShutsAreAlike }
 {}

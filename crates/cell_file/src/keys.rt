@@ -56,6 +56,14 @@ impl Keys {
         })
     }
 
+    /// Whether the blocks of its one level lie right under the root.
+    pub fn plain(&self) -> bool
+        ensures plain { result ≡ self.now.plain }
+        ensures keys { AreKeys self.now }
+    {
+        self.plain
+    }
+
     /// The key of a cell's block in the dataset.
     pub fn base(&self, cell: u32) -> ArrayString<256>
         requires { cell < cells_of self.now.levels }

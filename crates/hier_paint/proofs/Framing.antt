@@ -122,9 +122,9 @@ module _ {E : Type 0} (leads : E → List Event → List Asked → E → Type 0)
         visited = record { visits = works.visits; way = way; last = last; looks = f.looks; calls = f.calls; are = f.are; events_are = refl };
       }
 
-  pub frame_cut : (caused : E → E → ℕ → AcquireErr → Type 0) (e b e' : E) (view : View) (picture : Pixels) (s : Sight) (err : AcquireErr) (count : ℕ) → leads e [] (clearing (viewer e) count ∷ []) b → s ≡ opening view.strategy
+  pub frame_cut : (caused : E → E → ℕ → AcquireErr → Type 0) (e b e' : E) (view : View) (picture : Pixels) (s : Sight) (err : AcquireErr) (count : ℕ) → picture.width ≡ view.width → picture.height ≡ view.height → leads e [] (clearing (viewer e) count ∷ []) b → s ≡ opening view.strategy
       → Fails leads levels number viewer caused b s e' err (IsCut (levels b) view picture) → IsCutOff leads levels number viewer caused e e' view picture err
-  frame_cut caused e b e' view picture s err count led start fails =
+  frame_cut caused e b e' view picture s err count width height led start fails =
       let f = frame_begun e b fails.between fails.free view s fails.last count (λ _. Unit {0}) led start fails.works fails.let_go in
       let events : List Event = f.looks ++ given_back (number e) fails.last.held in
       let t = begun (number e) (viewer e) (levels e) view.strategy fails.works.visits fails.last f.looks f.calls f.are in
@@ -136,6 +136,8 @@ module _ {E : Type 0} (leads : E → List Event → List Asked → E → Type 0)
         rule = keeps_rule e view fails.works.visits events f.calls f.count t;
         cell = fails.cell;
         visited = record {
+          width = width;
+          height = height;
           visits = fails.works.visits;
           level = fails.level;
           way = subst (λ (ls : List Level). IsCut ls view picture fails.works.visits fails.level fails.cell) (sym (same_levels e b [] (clearing (viewer e) count ∷ []) led)) fails.way;
@@ -144,6 +146,7 @@ module _ {E : Type 0} (leads : E → List Event → List Asked → E → Type 0)
           calls = f.calls;
           are = f.are;
           due = fails.due;
+          loads = fails.look.loads;
           events_are = refl;
         };
         piece = fails.piece;

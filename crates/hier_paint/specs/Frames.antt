@@ -1,5 +1,5 @@
 -- What a frame is.
-use Rattle.std.specs.Prelude.{◌≡◌, ℕ, List, [], ◌∷◌, ◌++◌}
+use Rattle.std.specs.Prelude.{◌≡◌, ℕ, true, List, [], ◌∷◌, ◌++◌}
 use Rattle.cell_grid.specs.declared.level.Level.{Level}
 use Rattle.cell_file.specs.declared.errors.AcquireErr.{AcquireErr}
 use Rattle.arr_history.specs.declared.event.Event.{Event}
@@ -8,6 +8,7 @@ use Rattle.scale_pick.specs.Picture.{Pixels}
 use Rattle.scale_pick.specs.Notes.{notes_of}
 use Rattle.scale_pick.specs.Painting.{IsPainting}
 use Rattle.volatile_cell.specs.Asked.{Asked}
+use Rattle.volatile_cell.specs.Budget.{loads_by}
 use Rattle.volatile_cell.specs.StrategyRule.{IsAllowed, requests_for, clearing}
 use Rattle.volatile_cell.specs.Pieces.{IsRefused}
 use Rattle.hier_paint.specs.Sight.{Sight, opening, given_back}
@@ -32,8 +33,10 @@ pub record IsVisited (k viewer : ℕ) (levels : List Level) (view : View) (pictu
   pub are : AreVisits k viewer levels (opening view.strategy) visits last looks calls
   pub events_are : events ≡ looks ++ given_back k last.held
 
--- The looks of a frame up to one that is refused, for the cell that is due by then; before it the frame gives back what it holds.
+-- The looks of a frame up to one that is refused, which loads the cell that is due by then; before it the frame gives back what it holds.
 pub record IsVisitedTo (k viewer : ℕ) (levels : List Level) (view : View) (picture : Pixels) (cell : ℕ) (events : List Event) : Type 0 where
+  pub width : picture.width ≡ view.width
+  pub height : picture.height ≡ view.height
   pub visits : List Visit
   pub level : ℕ
   pub way : IsCut levels view picture visits level cell
@@ -42,6 +45,7 @@ pub record IsVisitedTo (k viewer : ℕ) (levels : List Level) (view : View) (pic
   pub calls : List Asked
   pub are : AreVisits k viewer levels (opening view.strategy) visits last looks calls
   pub due : IsLookedFor last level cell
+  pub loads : loads_by last.budget.strategy last.budget.left ≡ true
   pub events_are : events ≡ looks ++ given_back k last.held
 
 module _ {E : Type 0} (leads : E → List Event → List Asked → E → Type 0) (levels : E → List Level) (number viewer : E → ℕ) where

@@ -1,6 +1,8 @@
+pub mod Asks
 pub mod Attr
 pub mod Factors
 pub mod Gets
+pub mod Laws
 pub mod Member
 pub mod Pyramid
 pub mod Rules

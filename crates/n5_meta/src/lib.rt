@@ -1,6 +1,8 @@
 //! The attributes of N5 datasets and pyramids, read from JSON.
 #![tactic(auto)]
 
+ghost use Rattle.n5_meta.specs.Laws.{OpeningsAreAlike};
+
 mod attr;
 mod attributes;
 mod described;
@@ -22,3 +24,8 @@ pub use meta_err::MetaErr;
 pub use open_err::OpenErr;
 pub use pyramid::open_pyramid;
 pub use spot::Spot;
+
+/// Opening a pyramid is one function of what the store holds, and of which gets fail: what is asked, and what is answered.
+pub fn openings_are_alike()
+    ensures { OpeningsAreAlike }
+{}

@@ -1,6 +1,7 @@
 // A pyramid by the attributes that a store holds. An error is the first refusal in the order of work.
 ghost use Rattle.std.specs.Prelude.{◌≡◌, ◌≤◌, ◌+◌, ◌^◌, ◌++◌, IsTrue, IfOk, OnOk, length, string_bytes};
 ghost use Rattle.std.specs.Result.{result_err};
+ghost use Rattle.n5_meta.specs.Asks.{AsksLevels, AsksOnce, AsksPyramid, IsAsked, IsGot, attr_by, setup_by};
 ghost use Rattle.n5_meta.specs.Gets.{IsAttributesKey, Opens};
 ghost use Rattle.n5_meta.specs.Pyramid.{Answers, attr_in, bytes_or, described_from, few_levels, level_key, pyramid_in, refusal_at, setup_in, setup_key};
 
@@ -29,6 +30,7 @@ const MOST_LEVELS: usize = 8;
 pub fn open_pyramid<S: Store>(alloc: Global, store: &mut S, root: &str) -> Result<Geometry, OpenErr>
     ensures opens { Opens root.now (S.contents store.old) (S.contents store.new) (result_err result) }
     ensures answer { IsTrue (S.contents store.old).told → Answers (λ geometry. geometry) result (pyramid_in (S.contents store.old).held root.now) }
+    ensures asks { IsAsked (AsksPyramid root.now) (S.contents store.old) (S.contents store.new) result }
 {
     let mut bytes = Vec::new(alloc);
     let factors = read_setup(alloc, store, root, &mut bytes)?;
@@ -50,6 +52,7 @@ fn read_setup<S: Store>(
 ) -> Result<Items<[u32; 3]>, OpenErr>
     ensures opens { Opens root.now (S.contents store.old) (S.contents store.new) (result_err result) }
     ensures answer { IsTrue (S.contents store.old).told → Answers (λ factors. factors) result (setup_in ((S.contents store.old).held (setup_key root.now))) }
+    ensures asks { IsAsked (AsksOnce (setup_key root.now) setup_by) (S.contents store.old) (S.contents store.new) result }
     ensures few { IfOk result (λ factors. length factors ≤ 8) }
 {
     let Ok(key) = setup_key(alloc, root) else {
@@ -80,6 +83,7 @@ fn read_levels<S: Store>(
     requires { length factors.now ≤ 8 }
     ensures opens { Opens root.now (S.contents store.old) (S.contents store.new) (result_err result) }
     ensures answer { IsTrue (S.contents store.old).told → Answers (λ described. described) result (described_from (S.contents store.old).held root.now 0 factors.now) }
+    ensures asks { IsAsked (AsksLevels root.now 0 factors.now) (S.contents store.old) (S.contents store.new) result }
 {
     let mut described = Items::new(alloc);
     let mut level = 0u8;
@@ -105,6 +109,7 @@ fn read_level<S: Store>(
 ) -> Result<Attr, OpenErr>
     ensures opens { Opens root.now (S.contents store.old) (S.contents store.new) (result_err result) }
     ensures answer { IsTrue (S.contents store.old).told → Answers (λ attr. attr) result (attr_in level ((S.contents store.old).held (level_key root.now level))) }
+    ensures asks { IsAsked (AsksOnce (level_key root.now level) (attr_by level)) (S.contents store.old) (S.contents store.new) result }
 {
     let Ok(key) = level_key(alloc, root, level) else {
         return Err(OpenErr::Memory);
@@ -128,6 +133,7 @@ fn get_attributes<S: Store>(
     requires { IsAttributesKey root.now key.now }
     ensures opens { Opens root.now (S.contents store.old) (S.contents store.new) (result_err result) }
     ensures answer { IsTrue (S.contents store.old).told → Answers (λ _. bytes.new.items) result (bytes_or spot ((S.contents store.old).held key.now)) }
+    ensures asks { IsGot key.now spot (S.contents store.old) (S.contents store.new) result bytes.new.items }
 {
     match store.get(key, LONGEST_ATTRIBUTES, bytes) {
         Got::Found => Ok(()),

@@ -15,7 +15,6 @@ use Rattle.cell_file.specs.Standing.{refusal_of, refused_by}
 use Rattle.cell_grid.specs.declared.level.Level.{Level}
 use Rattle.arr_history.specs.declared.event.Event.{Event}
 use Rattle.arr_history.specs.declared.event.Event.TheVariants as event
-use Rattle.sole_cache.specs.Slot.{slot_in}
 use Rattle.sole_cache.specs.Cached.{Cached, store_in, store_of, slot_of, slot_at}
 use Rattle.sole_cache.specs.Valid.{IsCache}
 use Rattle.sole_cache.specs.Room.{IsLowestFree, IsFull, IsVictim}

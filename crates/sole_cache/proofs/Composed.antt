@@ -94,7 +94,7 @@ order_same_next b s t o (event.Gone k c saved) same = ap (left_by o) (same.cells
 order_same_next b s t o (event.Back k c) same = ap (touched_by o) (same.cells c)
 order_same_next b s t o _ same = refl
 
-order_same : (b : Shape) (s t : State) (o : Order) (events : List Event) → IsSame b s t → order_after s o events ≡ order_after t o events
+pub order_same : (b : Shape) (s t : State) (o : Order) (events : List Event) → IsSame b s t → order_after s o events ≡ order_after t o events
 order_same b s t o [] same = refl
 order_same b s t o (e ∷ events) same = ap (λ x. order_after (next s e) x events) (order_same_next b s t o e same) ∙ order_same b (next s e) (next t e) (order_next t o e) events (same_next b s t e same)
 

@@ -5,7 +5,7 @@ use Rattle.cell_grid.specs.declared.level.Level.{Level}
 use Rattle.cell_grid.specs.Pyramid.{cells_of, voxels_of, kind_of, frame_of, IsPyramid}
 use Rattle.cell_grid.proofs.FrameLemmas.{frame_bounds}
 use Rattle.cell_store.specs.Store.{Contents}
-use Rattle.cell_file.specs.Keys.{KeyNames}
+use Rattle.cell_file.specs.Keys.{KeyNames, AreKeys}
 use Rattle.cell_file.proofs.Widths.{bytes_le}
 use Rattle.recency.specs.Order.{opening}
 use Rattle.arr_history.specs.declared.tally.Tally.{Tally}
@@ -94,8 +94,8 @@ module _ (levels : List Level) (keys : KeyNames) (shown : List Contents) (slots 
     unsaved_fit = subst (λ k. k ≤ room) (sym (length-replicate slots (free_slot (frame_of levels)))) enough;
   }
 
-  pub is_opened : IsOpened levels keys slots (fresh levels keys shown slots tally)
-  is_opened = record {
+  pub is_opened : AreKeys keys → IsOpened levels keys slots (fresh levels keys shown slots tally)
+  is_opened own = record {
     levels_are = refl;
     keys_are = refl;
     slot_count = length-replicate slots (free_slot (frame_of levels));
@@ -109,6 +109,8 @@ module _ (levels : List Level) (keys : KeyNames) (shown : List Contents) (slots 
       pins = λ k n. sym (nobody k n);
       arrays = λ n _ _ i _. sym (ap (λ o. slice_index (Rattle.sole_cache.specs.Cached.array_at (replicate slots (free_slot (frame_of levels))) o (stands (fresh levels keys shown slots tally) n)) i) (none_at (cells_of levels) n));
     };
+    own = own;
+    valid = cache_fresh;
   }
     where
       zero_if : (b : Bool) (x : ℕ) → x ≡ 0 → Rattle.std.specs.Prelude.cond b x 0 ≡ 0

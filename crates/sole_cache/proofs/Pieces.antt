@@ -1,8 +1,9 @@
 -- The events of an acquire, of one that is told with its calls of the stores.
-use Rattle.std.proofs.Common.{◌≡◌, ◌⊎◌, inl, inr, ℕ, List, Some, Result, Ok, Err, sym, ap}
+use Rattle.std.proofs.Common.{◌≡◌, inl, inr, ℕ, Bool, List, Some, Result, Ok, Err}
 use Rattle.cell_store.specs.declared.store.Put.{Put}
 use Rattle.cell_store.specs.declared.store.Put.TheVariants as put
 use Rattle.store_calls.specs.Calls.{StoreCall}
+use Rattle.n5_block.specs.declared.block_err.BlockErr.{BlockErr}
 use Rattle.cell_file.specs.declared.errors.FetchErr.{FetchErr}
 use Rattle.cell_file.specs.declared.errors.FetchErr.TheVariants as fetching
 use Rattle.cell_file.specs.declared.errors.AcquireErr.{AcquireErr}
@@ -37,12 +38,12 @@ no_read_fault put.Done e = cc
 no_read_fault put.Failed e = cc
 no_read_fault put.NoMemory e = cc
 
-not_malformed : (answer : Put) (edited : Rattle.std.proofs.Common.Bool) (err : Rattle.n5_block.specs.declared.block_err.BlockErr.BlockErr) → refusal_of_put answer ≡ Some (refusal.Malformed edited err) → ⊥
+not_malformed : (answer : Put) (edited : Bool) (err : BlockErr) → refusal_of_put answer ≡ Some (refusal.Malformed edited err) → ⊥
 not_malformed put.Done edited err e = cc
 not_malformed put.Failed edited err e = cc
 not_malformed put.NoMemory edited err e = cc
 
-not_too_long : (answer : Put) (edited : Rattle.std.proofs.Common.Bool) (len limit : ℕ) → refusal_of_put answer ≡ Some (refusal.TooLong edited len limit) → ⊥
+not_too_long : (answer : Put) (edited : Bool) (len limit : ℕ) → refusal_of_put answer ≡ Some (refusal.TooLong edited len limit) → ⊥
 not_too_long put.Done edited len limit e = cc
 not_too_long put.Failed edited len limit e = cc
 not_too_long put.NoMemory edited len limit e = cc

@@ -100,6 +100,17 @@ seated_after a b d n i (Ok h) lt inside left handle seated = subst (IsHandleOf d
     (ap (λ t. slice_index_or t n None) seated.0 ∙ get_or-set_same b.table n (Some i) None inside) (omega arith) true)
 seated_after a b d n i (Err e) lt inside left handle seated = tt
 
+-- the pins of its slot then
+pub pinned_after : (a b d : Cached) (n i : ℕ) (r : Result Handle AcquireErr) → i < length a.slots → b.slots ≡ slice_set a.slots i (emptied (slot_at a i))
+    → OnOk r ((d.table ≡ slice_set b.table n (Some i)) × ((frame : List ℕ) × (d.slots ≡ slice_set b.slots i (loaded_with n frame)))) → OnOk r ((slot_at d i).pins ≡ 1)
+pinned_after a b d n i (Ok h) lt left seated = ap (λ l. (slot_in l i).pins) seated.1.1
+    ∙ ap (λ (t : SlotValue). t.pins) (get_or-set_same b.slots i (loaded_with n seated.1.0) no_slot (subst (λ k. i < k) (sym (ap length left ∙ length-set a.slots i (emptied (slot_at a i)))) lt))
+pinned_after a b d n i (Err e) lt left seated = tt
+
+pub unpinned_after : (a b d : Cached) (i : ℕ) (r : Result Handle AcquireErr) → i < length a.slots → b.slots ≡ slice_set a.slots i (emptied (slot_at a i)) → OnErr r ((d.table ≡ b.table) × (d.slots ≡ b.slots)) → OnErr r ((slot_at d i).pins ≡ 0)
+unpinned_after a b d i (Ok h) lt left stayed = tt
+unpinned_after a b d i (Err e) lt left stayed = ap (λ l. (slot_in l i).pins) (stayed.1 ∙ left) ∙ emptied_pins a.slots i (slot_at a i) lt
+
 -- the refusal of an acquire by that of a save
 abbrev pub refused_put : SaveErr → AcquireErr
 refused_put saving.WriteFault = refusal.WriteFault

@@ -72,11 +72,3 @@ pub asks_set : (a b d e : Cached) (level : ℕ) (pos : List ℕ) (cell at x : �
 asks_set a b d e level pos cell at x h place small (piece, calls, acquired) write same unpin =
     let ended = ended_by b d e (event.Mark 0 h.cell ∷ event.Write 0 h.cell at x ∷ []) (event.Unpin 0 h.cell ∷ []) write same unpin in
     (calls, (cell, at, place, small, record { handle = h; piece = piece; mid = b; acquired = acquired; ended = subst (λ n. Quiet b (event.Mark 0 n ∷ event.Write 0 n at x ∷ event.Unpin 0 n ∷ []) e) acquired.is.0 ended }))
-
-pub asks_not_got : (a b : Cached) (level : ℕ) (pos : List ℕ) (cell at : ℕ) (refusal : AcquireErr) → IsVoxelOf a.levels level pos cell at → (events : List Event) × (calls : List StoreCall) × Acquires a cell (Err refusal) events calls b
-    → (calls : List StoreCall) × GetsVoxel a level pos (Err (cell_err.Acquire refusal)) calls b
-asks_not_got a b level pos cell at refusal place (piece, calls, acquired) = (calls, (cell, at, place, (piece, acquired)))
-
-pub asks_not_set : (a b : Cached) (level : ℕ) (pos : List ℕ) (cell at x : ℕ) (refusal : AcquireErr) → IsVoxelOf a.levels level pos cell at → x ≤ greatest_of (kind_of a.levels cell)
-    → (events : List Event) × (calls : List StoreCall) × Acquires a cell (Err refusal) events calls b → (calls : List StoreCall) × SetsVoxel a level pos x (Err (cell_err.Acquire refusal)) calls b
-asks_not_set a b level pos cell at x refusal place small (piece, calls, acquired) = (calls, (cell, at, place, small, (piece, acquired)))

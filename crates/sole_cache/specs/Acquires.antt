@@ -1,9 +1,8 @@
 -- What a call does, with its calls of the stores.
-use Rattle.std.specs.Prelude.{◌≡◌, ◌⊎◌, ℕ, ◌<◌, ◌≤◌, Bool, true, false, cond, List, [], ◌∷◌, ◌++◌, length, take, Option, None, Some, Result}
+use Rattle.std.specs.Prelude.{◌≡◌, ◌⊎◌, ℕ, ◌<◌, ◌≤◌, true, cond, List, [], ◌∷◌, ◌++◌, length, take, Option, None, Some, Result}
 use Rattle.std.specs.declared.result.Result.TheVariants as outcome
 use Rattle.cell_grid.specs.Kind.{greatest_of}
 use Rattle.cell_grid.specs.Pyramid.{lane_of, voxels_of, kind_of, IsVoxelOf}
-use Rattle.cell_store.specs.Store.{Contents}
 use Rattle.cell_store.specs.declared.store.Put.{Put}
 use Rattle.cell_store.specs.declared.store.Put.TheVariants as put
 use Rattle.store_calls.specs.Calls.{StoreCall, AreCalled}

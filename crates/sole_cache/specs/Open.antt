@@ -1,13 +1,14 @@
 -- A cache as it was made.
 use Rattle.std.specs.Prelude.{◌≡◌, ℕ, false, List, [], length, replicate, None, unwrap_or, slice_index}
 use Rattle.cell_grid.specs.declared.level.Level.{Level}
-use Rattle.cell_file.specs.Keys.{KeyNames}
+use Rattle.cell_file.specs.Keys.{KeyNames, AreKeys}
 use Rattle.recency.specs.Order.{opening}
 use Rattle.arr_history.specs.State.{State}
 use Rattle.arr_history.specs.State as state
 use Rattle.arr_history.specs.History.{IsSame}
 use Rattle.arr_history.specs.Tally.{tally_of}
 use Rattle.sole_cache.specs.Slot.{SlotValue}
+use Rattle.sole_cache.specs.Valid.{IsCache}
 use Rattle.sole_cache.specs.Cached.{Cached, stands, slot_of, slot_at, handles_out, state_of, shape_of}
 
 -- a slot without a cell
@@ -25,3 +26,5 @@ pub record IsOpened (levels : List Level) (keys : KeyNames) (slots : ℕ) (c : C
   pub order : c.order ≡ opening slots
   pub tally : c.tally ≡ tally_of [] []
   pub state : IsSame (shape_of c) (state.opening (λ n i. slice_index (unwrap_or (stands c n) []) i)) (state_of c)
+  pub own : AreKeys keys
+  pub valid : IsCache c

@@ -15,11 +15,10 @@ use Rattle.cell_file.specs.declared.errors.CellErr.TheVariants as cell_err
 use Rattle.arr_history.specs.declared.cell_state.Seen.{Seen}
 use Rattle.arr_history.specs.declared.cell_state.Seen.TheVariants as found
 use Rattle.arr_history.specs.declared.event.Event.{Event}
-use Rattle.arr_history.specs.declared.event.Event.TheVariants.{Pin, Miss, Unpin, Mark, Read, Write, Claim, Drop, Live, Close, Gone, Back}
+use Rattle.arr_history.specs.declared.event.Event.TheVariants.{Pin, Miss, Unpin, Mark, Read, Write, Claim, Drop, Live, Close, Back}
 use Rattle.sole_cache.specs.Cached.{Cached, store_of, slot_of, slot_at}
 use Rattle.sole_cache.specs.Room.{IsFull, IsVictim, IsRoom}
 use Rattle.sole_cache.specs.Handle.{Handle}
-use Rattle.sole_cache.specs.Moves.{Runs}
 
 -- the cell was live
 pub record IsHit (c : Cached) (cell : ℕ) (h : Handle) (events : List Event) : Type 0 where

@@ -1,1 +1,5 @@
 pub mod Composed
+pub mod Parts
+pub mod Dues
+pub mod Holds
+pub mod Leaving

@@ -1,5 +1,6 @@
 -- Calls of the stores of a list, one after another: which store was asked what, and what it answered.
-use Rattle.std.specs.Prelude.{◌≡◌, ℕ, Bool, true, false, not, ◌&&◌, IsTrue, List, [], ◌∷◌, Some, slice_get, slice_set}
+use Rattle.std.specs.Prelude.{◌≡◌, ℕ, ◌==◌, Bool, true, false, not, ◌&&◌, IsTrue, cond, List, [], ◌∷◌, Some, slice_get, slice_set}
+use Rattle.std.specs.Str.{bytes_eq}
 use Rattle.cell_store.specs.Store.{Contents, Gets, Puts}
 use Rattle.cell_store.specs.declared.store.Got.{Got}
 use Rattle.cell_store.specs.declared.store.Got.TheVariants as got
@@ -48,3 +49,23 @@ FailAlike [] [] = Unit {0}
 FailAlike [] (d ∷ others) = IsTrue (is_answered d) × FailAlike [] others
 FailAlike (c ∷ calls) [] = IsTrue (is_answered c) × FailAlike calls []
 FailAlike (c ∷ calls) (d ∷ others) = (is_failed d ≡ is_failed c) × (wants_memory d ≡ wants_memory c) × FailAlike calls others
+
+-- a put that was not done leaves what its key holds open, and one that was done settles it
+abbrev pub is_undone : Put → Bool
+is_undone put.Done = false
+is_undone put.Failed = true
+is_undone put.NoMemory = true
+
+-- whether what a key of a store holds is open after a call, where it was before, or wasn't
+abbrev pub open_after : ℕ → List ℕ → Bool → StoreCall → Bool
+open_after lane key before (Getting l k limit answer found) = before
+open_after lane key before (Putting l k bytes answer) = cond ((l == lane) && bytes_eq k key) (is_undone answer) before
+
+-- the same after calls, one after another
+abbrev pub is_left_open : ℕ → List ℕ → Bool → List StoreCall → Bool
+is_left_open lane key before [] = before
+is_left_open lane key before (c ∷ calls) = is_left_open lane key (open_after lane key before c) calls
+
+-- whether the last put under a key of a store was not done
+abbrev pub is_open : ℕ → List ℕ → List StoreCall → Bool
+is_open lane key calls = is_left_open lane key false calls

@@ -1,8 +1,10 @@
 -- Lemmas of the call.
+pub mod AlikeLemmas
 mod KeyLemmas
 mod LogLemmas
 mod NumberLemmas
 mod PictureLemmas
+mod PutLemmas
 mod RunLemmas
 mod SourceLemmas
 mod StoresLemmas

@@ -15,6 +15,7 @@ use Rattle.viewrun.specs.Pictures.{PutsShots, WritesPictures, failed_pictures}
 use Rattle.viewrun.specs.Stores.{FirstChanges}
 use Rattle.viewrun.proofs.LogLemmas.{counts_alike}
 use Rattle.viewrun.proofs.PictureLemmas.{others_keep, pictures_rise, stands_alike}
+use Rattle.viewrun.proofs.PutLemmas.{puts_with}
 use Rattle.viewrun.proofs.ViewLemmas.{shot_name}
 use Rattle.viewrun.proofs.WrittenLemmas.{all_written}
 
@@ -33,6 +34,8 @@ pictures_written levels keys shots u (a ∷ old) [] pyramid distinct puts = absu
 pictures_written levels keys shots u (a ∷ old) (b ∷ new) pyramid distinct puts = (
   record {
     puts = puts.0;
+    calls = (puts_with shots a b u puts.0).0;
+    asks = (puts_with shots a b u puts.0).1;
     written = all_written shots a b u distinct puts.0;
     others = λ told key other. others_keep shots a b u key puts.0 told other;
     stands = stands_alike levels keys shots a b u pyramid puts.0;

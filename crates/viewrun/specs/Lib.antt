@@ -1,3 +1,4 @@
+pub mod Alike
 pub mod Call
 pub mod Ending
 pub mod Pictures

@@ -14,6 +14,7 @@ use Rattle.run_report.specs.declared.shot.Shot.{Shot}
 use Rattle.run_report.specs.Words.{◌␣◌, line}
 use Rattle.scale_pick.specs.Picture.{Pixels}
 use Rattle.sole_cache.specs.Moves.{is_get, is_put}
+use Rattle.store_calls.specs.Calls.{StoreCall, Putting, AreCalled}
 use Rattle.view_script.specs.declared.command.Command.{Command}
 use Rattle.view_script.specs.declared.command.Command.TheVariants.{View}
 use Rattle.view_script.specs.Meaning.{is_named}
@@ -53,6 +54,23 @@ PutsShots [] old new told = (new ≡ old) × (told ≡ [])
 PutsShots (s ∷ shots) old new told =
     (mid : Contents) × (first : List Unwritten) × (rest : List Unwritten) × (told ≡ first ++ rest) × PutsShot s old mid first × PutsShots shots mid new rest
 
+-- one put of a picture that is shown, and none of another; it is named unwritten where that was not done
+abbrev pub IsPutWhere : Bool → Shot → List StoreCall → List Unwritten → Type 0
+IsPutWhere true shot calls told = (answer : Put) × (calls ≡ Putting 0 (picture_key shot.name) (file_of shot.picture) answer ∷ []) × TellsPut shot answer told
+IsPutWhere false shot calls told = (calls ≡ []) × (told ≡ [])
+
+-- the puts of pictures in their order, and those that are named unwritten
+abbrev pub ArePuts : List Shot → List StoreCall → List Unwritten → Type 0
+ArePuts [] calls told = (calls ≡ []) × (told ≡ [])
+ArePuts (s ∷ shots) calls told =
+    (asked : List StoreCall) × (more : List StoreCall) × (first : List Unwritten) × (rest : List Unwritten)
+    × (calls ≡ asked ++ more) × (told ≡ first ++ rest) × IsPutWhere s.shown s asked first × ArePuts shots more rest
+
+-- Pictures are put into a store by these calls. A put that found no memory may stand in no log.
+pub record PutsWith (shots : List Shot) (calls : List StoreCall) (old new : Contents) (told : List Unwritten) : Type 0 where
+  pub are : ArePuts shots calls told
+  pub called : AreCalled calls (old ∷ []) (new ∷ [])
+
 -- A picture was put, and is named behind those before, where its put was not done.
 pub record AddsShot (shot : Shot) (old new : Contents) (before after : List Unwritten) : Type 0 where
   pub told : List Unwritten
@@ -83,6 +101,8 @@ IsOther shots key = All (λ s. bytes_eq (picture_key s.name) key ≡ false) shot
 -- The pictures of a run were put into a store, none under the key of a cell or of another picture.
 pub record WritesPictures (levels : List Level) (keys : KeyNames) (shots : List Shot) (unwritten : List Unwritten) (old new : Contents) : Type 0 where
   pub puts : PutsShots shots old new unwritten
+  pub calls : List StoreCall
+  pub asks : PutsWith shots calls old new unwritten
   pub written : IsTrue old.told → All (IsWritten unwritten new) shots
   pub others : IsTrue old.told → (key : List ℕ) → IsOther shots key → new.held key ≡ old.held key
   pub stands : StandsAlike levels keys old new

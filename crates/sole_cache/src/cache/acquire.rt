@@ -125,6 +125,8 @@ impl<S: Store> SoleCache<S> {
         requires unpinned { (slot_at (by S.contents self.old) slot).pins ≡ 0 }
         ensures replaced { (events : List Event) × (calls : List StoreCall) × IsReplaced (by S.contents self.old) cell due slot result events calls × Runs (by S.contents self.old) events (by S.contents self.new) × AreCalled calls (by S.contents self.old).shown (by S.contents self.new).shown }
         ensures seated { IfOk result (λ h. IsHandleOf (by S.contents self.new) h) }
+        ensures one_pin { OnOk result ((slot_at (by S.contents self.new) slot).pins ≡ 1) }
+        ensures no_pin { OnErr result ((slot_at (by S.contents self.new) slot).pins ≡ 0) }
         ensures caused { IsReplacedBy (by S.contents self.old) (by S.contents self.new) cell due result }
         ensures others { (i : ℕ) → i ≢ slot → slot_at (by S.contents self.new) i ≡ slot_at (by S.contents self.old) i }
         ensures granted { OnOk result (handles_out (by S.contents self.new) ≡ handles_out (by S.contents self.old) + 1) }

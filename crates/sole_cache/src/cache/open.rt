@@ -41,6 +41,7 @@ impl<S: Store> SoleCache<S> {
         ensures stores { IfOk result (λ cache. cache.stores ≡ stores.items) }
         ensures unmade { IfErr result (λ unmade. unmade.stores.items ≡ stores.items) }
     {
+        let _plain = keys.plain();
         match take_parts(alloc, &geometry, slots) {
             Ok(parts) => Ok(SoleCache {
                 geometry,

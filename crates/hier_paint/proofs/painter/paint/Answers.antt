@@ -42,4 +42,4 @@ returns-in-Err-clause-refused g c =
     subst (λ e. IsCutOff g.E.Eyes.leads g.E.Eyes.levels g.E.Eyes.number g.E.Eyes.viewer g.E.Eyes.caused c.args.eyes.now e c.args.view.now c.paint_rows-outcome.new.picture c.in-Err.refusal) (sym unmoved)
     (frame_cut g.E.Eyes.leads g.E.Eyes.levels g.E.Eyes.number g.E.Eyes.viewer g.met.E.Eyes.leads_on g.met.E.Eyes.same_levels g.met.E.Eyes.same_number g.met.E.Eyes.same_viewer g.E.Eyes.caused
     c.args.eyes.now c.begin-cleared.new.self c.paint_rows-outcome.new.eyes c.args.view.now c.paint_rows-outcome.new.picture (sight c.new-hand.result) c.in-Err.refusal c.begin-cleared.result
-    c.begin-cleared.ensures.led c.new-hand.ensures.sight c.in-Err.ensures.refused)
+    (c.paint_rows-outcome.ensures.width ∙ c.requires.width) (c.paint_rows-outcome.ensures.height ∙ c.requires.height) c.begin-cleared.ensures.led c.new-hand.ensures.sight c.in-Err.ensures.refused)

@@ -1,8 +1,9 @@
--- The levels described so far, followed by those that are left, are those of all factors; what was done to the store.
+-- The levels described so far, followed by those that are left, are those of all factors; what was asked of the store and done to it.
 use Rattle.std.proofs.Common.{◌≡◌, drop}
 use Rattle.std.specs.Prelude.{IsTrue, None}
 use Rattle.n5_meta.specs.Gets.{Opens}
 use Rattle.n5_meta.specs.Pyramid.{described_from}
+use Rattle.n5_meta.proofs.AskLemmas.{AreGot}
 use Rattle.n5_meta.proofs.Prefixes.{prefixed}
 use Rattle.n5_meta.proofs.pyramid.read_levels.Given as goal
 
@@ -12,6 +13,7 @@ invariant-loop-factor g l =
     let now = g.S.Store.contents l.store in
     record {
       opens : Opens l.root before now None;
+      got : AreGot l.root l.factors l.factor-index l.described before now;
       level : l.level ≡ l.factor-index;
       meaning : IsTrue before.told → prefixed l.described (described_from before.held l.root l.factor-index (drop l.factor-index l.factors)) ≡ described_from before.held l.root 0 l.factors;
     }

@@ -5,7 +5,7 @@ use Rattle.cell_grid.specs.Pyramid.{IsVoxelOf}
 use Rattle.sole_cache.specs.Moves.{IsStoodFor}
 use Rattle.sole_cache.proofs.Stood.{stood}
 use Rattle.sole_cache.proofs.Pieces.{pieces_of}
-use Rattle.sole_cache.proofs.Voxels.{got, asks_got, not_got, asks_not_got}
+use Rattle.sole_cache.proofs.Voxels.{got, asks_got, not_got}
 use Rattle.sole_cache.proofs.cache.SoleCache.get.Goals as goal
 
 pub returns-in_default-clause-stood : goal.returns-in_default-clause-stood

@@ -22,4 +22,4 @@ returns-in-Ok-clause-opened g c =
     let count : length shown ≡ length c.args.stores.items = map_length g.S.Store.contents c.args.stores.items in
     let zeros : c.default.result ≡ tally_of [] [] = zero_tally c.default.result c.default.ensures in
     rw (e.table, e.slots, e.order) (is_opened c.args.geometry c.args.keys shown c.args.slots c.default.result e.pyramid c.requires.made c.requires.some_slots c.requires.few_slots (subst (λ k. 1 ≤ k) (sym count) c.requires.some_stores)
-    (subst (λ k. k ≤ 16) (sym count) c.requires.few_stores) zeros)
+    (subst (λ k. k ≤ 16) (sym count) c.requires.few_stores) zeros c.plain-plain.ensures.keys)

@@ -7,7 +7,7 @@ use Rattle.sole_cache.specs.Valid.{IsCache}
 use Rattle.sole_cache.specs.Slot.{slot_in}
 use Rattle.std.proofs.lemmas.List.{length-set}
 use Rattle.std.proofs.Common.{slice_index_or}
-use Rattle.sole_cache.proofs.Replaces.{still_absent, now_free, others_taken, replaced, seated_after, held_back, caused_on, others_after, granted_after, refused_after}
+use Rattle.sole_cache.proofs.Replaces.{still_absent, now_free, others_taken, replaced, seated_after, pinned_after, unpinned_after, held_back, caused_on, others_after, granted_after, refused_after}
 use Rattle.sole_cache.proofs.cache.SoleCache.replace.Goals as goal
 
 pub refill-requires-clause-cell : goal.refill-requires-clause-cell
@@ -107,3 +107,21 @@ returns-in-Ok-clause-refused g c =
     let left = c.in-Ok.ensures.left in
     let first : c.args.slot < length old.slots = (sound.seated.in_slot c.args.due c.args.slot c.requires.due).0 in
     refused_after old mid (by g.S.Store.contents c.refill.new.self) c.args.slot c.refill.result first c.requires.unpinned left.1 c.refill.ensures.stayed
+
+pub returns-in-Ok-clause-one_pin : goal.returns-in-Ok-clause-one_pin
+returns-in-Ok-clause-one_pin g c =
+    let old = by g.S.Store.contents c.args.self.now in
+    let mid = by g.S.Store.contents c.evict.new.self in
+    let sound : IsCache old = c.evict.ensures.sound in
+    let left = c.in-Ok.ensures.left in
+    let first : c.args.slot < length old.slots = (sound.seated.in_slot c.args.due c.args.slot c.requires.due).0 in
+    pinned_after old mid (by g.S.Store.contents c.refill.new.self) c.args.cell c.args.slot c.refill.result first left.1 c.refill.ensures.seated
+
+pub returns-in-Ok-clause-no_pin : goal.returns-in-Ok-clause-no_pin
+returns-in-Ok-clause-no_pin g c =
+    let old = by g.S.Store.contents c.args.self.now in
+    let mid = by g.S.Store.contents c.evict.new.self in
+    let sound : IsCache old = c.evict.ensures.sound in
+    let left = c.in-Ok.ensures.left in
+    let first : c.args.slot < length old.slots = (sound.seated.in_slot c.args.due c.args.slot c.requires.due).0 in
+    unpinned_after old mid (by g.S.Store.contents c.refill.new.self) c.args.slot c.refill.result first left.1 c.refill.ensures.stayed

@@ -10,7 +10,7 @@ use Rattle.sole_cache.proofs.Composed.{runs_none}
 use Rattle.store_calls.specs.Calls.{StoreCall}
 use Rattle.sole_cache.specs.Acquires.{SetsVoxel}
 use Rattle.sole_cache.proofs.Pieces.{pieces_of}
-use Rattle.sole_cache.proofs.Voxels.{was_set, asks_set, not_set, asks_not_set, big, fits}
+use Rattle.sole_cache.proofs.Voxels.{was_set, asks_set, not_set, big, fits}
 use Rattle.sole_cache.proofs.cache.SoleCache.set.Goals as goal
 
 pub returns-in_default-clause-stood : goal.returns-in_default-clause-stood

@@ -1,0 +1,15 @@
+pub mod Parts
+pub mod Peeling
+pub mod Tandem
+pub mod Getting
+pub mod Visiting
+pub mod Ways
+pub mod Spots
+pub mod Going
+pub mod Framing
+pub mod Closing
+pub mod Asking
+pub mod Serving
+pub mod Fetching
+pub mod Refusing
+pub mod OverEyes

@@ -1,0 +1,13 @@
+mod Ascending
+mod Rows
+mod Once
+mod Named
+mod Naming
+mod Opening
+mod Closing
+mod Slots
+mod Open
+mod Queues
+mod Voxels
+mod Serving
+mod Running

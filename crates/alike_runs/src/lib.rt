@@ -1,0 +1,6 @@
+//! Scratch.
+#![tactic(auto)]
+
+/// Nothing.
+pub fn nothing()
+{}
