@@ -19,7 +19,6 @@ use Rattle.team_run.specs.Plain.{ArePlain}
 use Rattle.team_run.specs.Run.{Completes, fault_replies, fault_servings}
 use Rattle.team_run.specs.Serve.{Adds, ServesAll}
 use Rattle.team_run.specs.Trace.{Trace}
-use Rattle.store_calls.proofs.Composed.{called_on}
 use Rattle.team_run.proofs.Called.{serves_called}
 use Rattle.team_run.proofs.Faults.{serves_license, same_failed}
 use Rattle.team_run.proofs.Histories.{serves_lead, all_told, all_counted}
@@ -51,9 +50,11 @@ module _ (on : MovesCompose) (none : NothingMoves) (grow : TalliesGrow) where
         unsaved = unsaved;
         closed = shut.closed;
         closing_calls = shut.calls;
-        called = called_on first.cache.shown last.cache.shown stores trace.stores shut.calls (serves_called first last commands report.replies trace served) shut.called;
+        called = serves_called first last commands report.replies trace served;
+        closing_called = shut.called;
         puts = shut.puts;
         valid = shut.valid;
+        counted = tally_is ∙ shut.counts;
         counts = tally_is ∙ shut.counts ∙ all_counted grow last.cache.tally trace.events shut.closing (all_told grow first last trace.events begun lead.cache);
         named = named;
         ascending = ascending;

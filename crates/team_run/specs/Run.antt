@@ -1,10 +1,10 @@
 -- What a run of a script is: its commands carried out over one cache, which is shut then.
-use Rattle.std.specs.Prelude.{◌≡◌, ◌⊎◌, ℕ, ◌+◌, ◌/◌, ◌^◌, ◌<◌, ◌≤◌, max, min, length, Bool, true, false, List, ◌++◌, Result, Ok, Err}
+use Rattle.std.specs.Prelude.{◌≡◌, ◌⊎◌, ℕ, ◌+◌, ◌/◌, ◌^◌, ◌<◌, ◌≤◌, max, min, length, Bool, true, false, List, [], ◌++◌, Result, Ok, Err}
 use Rattle.std.specs.List.{count_by}
 use Rattle.std.specs.List.Sorted.{IsNonDecreasingBy, IsPermutation}
 use Rattle.arr_history.specs.declared.closed.Unsaved.{Unsaved}
 use Rattle.arr_history.specs.declared.event.Event.{Event}
-use Rattle.arr_history.specs.Tally.{tally_of}
+use Rattle.arr_history.specs.Tally.{raised, tally_of}
 use Rattle.cell_file.specs.declared.errors.AcquireErr.{AcquireErr}
 use Rattle.cell_file.specs.declared.errors.AcquireErr.TheVariants as cause
 use Rattle.cell_file.specs.Keys.{KeyNames}
@@ -86,11 +86,13 @@ pub record Completes (first : Desk) (commands : List NumberedCommand) (after : L
   pub closed : AreClosed last.cache.slots unsaved closing
   -- the stores have one history too: the calls of the commands, and the puts of the shutting
   pub closing_calls : List StoreCall
-  pub called : AreCalled (trace.stores ++ closing_calls) first.cache.shown after
+  pub called : AreCalled trace.stores first.cache.shown last.cache.shown
+  pub closing_called : AreCalled closing_calls last.cache.shown after
   pub puts : ArePut last.cache.levels (length last.cache.shown) last.cache.slots unsaved closing_calls
   pub valid : IsCache last.cache
   -- the counts and the unsaved cells that are reported are those of this history
   pub counts : report.tally ≡ tally_of trace.events closing
+  pub counted : report.tally ≡ raised last.cache.tally [] closing
   pub named : IsPermutation unsaved report.unsaved
   pub ascending : IsNonDecreasingBy (λ u. u.cell) report.unsaved
   -- the replies and the pictures are those of plain arrays of voxels, read, written and painted in order
