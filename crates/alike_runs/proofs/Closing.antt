@@ -104,9 +104,9 @@ closed_same t slots others u e f g h taken due =
     let first = all_slots slots u e g in
     let second = all_slots others u f h in
     same_tallies _ _ _ _ _ _ _ _ _ _ _ _
-      (cut_same _ _ (omega (arith, first.hits, second.hits)))
-      (cut_same _ _ (omega (arith, first.misses, second.misses)))
-      (cut_same _ _ (omega (arith, first.loads, second.loads)))
-      refl
-      (cut_same _ _ (omega (arith, first.back, second.back, due)))
-      (cut_same _ _ (omega (arith, first.gone, second.gone, taken)))
+    (cut_same _ _ (omega (arith, first.hits, second.hits)))
+    (cut_same _ _ (omega (arith, first.misses, second.misses)))
+    (cut_same _ _ (omega (arith, first.loads, second.loads)))
+    refl
+    (cut_same _ _ (omega (arith, first.back, second.back, due)))
+    (cut_same _ _ (omega (arith, first.gone, second.gone, taken)))

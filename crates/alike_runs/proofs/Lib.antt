@@ -1,13 +1,14 @@
 mod Ascending
-mod Rows
 mod Once
 mod Named
 mod Naming
 mod Opening
 mod Closing
 mod Slots
-mod Open
-mod Queues
+pub mod Open
 mod Voxels
+mod AtDesk
+mod Views
+mod Fetching
 mod Serving
 mod Running

@@ -13,12 +13,12 @@ use Rattle.sole_cache.specs.Shut.{AreClosed}
 use Rattle.store_calls.specs.Calls.{StoreCall, FailAlike}
 use Rattle.view_script.specs.Script.{NumberedCommand}
 use Rattle.team_run.specs.Desk.{Desk, desk, first_queue}
-use Rattle.team_run.specs.Run.{Completes, IsRunOf}
+use Rattle.team_run.specs.Run.{Completes, run_calls}
 use Rattle.team_run.proofs.Histories.{serves_lead}
 use Rattle.alike_caches.specs.Alike.{AreAlikeBut}
 use Rattle.alike_caches.specs.Laws.{GetsAreAlike, SetsAreAlike, ShutsAreAlike}
 use Rattle.alike_runs.specs.Holding.{HoldAlike}
-use Rattle.alike_runs.specs.Runs.{DesksAreAlike, AreSameShots, TellAlike, run_calls, RunsAreAlike}
+use Rattle.alike_runs.specs.Runs.{DesksAreAlike, AreSameShots, TellAlike, RunsAreAlike}
 use Rattle.alike_runs.specs.Commands.{ViewsAreAlike, FetchesAreAlike}
 use Rattle.alike_runs.proofs.Ascending.{ascending_same}
 use Rattle.alike_runs.proofs.Closing.{closed_same}
@@ -39,7 +39,7 @@ module _ (gets : GetsAreAlike) (sets : SetsAreAlike) (views : ViewsAreAlike) (fe
     done = all_alike gets sets views fetches first again r.last s.last commands report.replies other.replies r.trace s.trace (r.closing_calls ++ m) (s.closing_calls ++ n) alike r.served s.served split
 
     shut : (s.unsaved ≡ r.unsaved) × AreAlikeBut r.last.cache.levels r.unsaved after new × FailAlike m n
-    shut = shuts r.last.cache s.last.cache r.unsaved s.unsaved r.closing_calls s.closing_calls m n after new done.2.cache r.puts r.closing_called s.puts s.closing_called done.3
+    shut = shuts r.last.cache s.last.cache r.unsaved s.unsaved r.closing_calls s.closing_calls m n after new done.2.cache r.puts s.puts r.closing_called s.closing_called done.3
 
     levels_last : r.last.cache.levels ≡ first.cache.levels
     levels_last = (serves_lead first r.last commands report.replies r.trace r.served).cache.moves.levels

@@ -82,10 +82,9 @@ module _ (gets : GetsAreAlike) (sets : SetsAreAlike) (views : ViewsAreAlike) (fe
   all_alike a b a' b' (c ∷ commands) (r ∷ replies) (s ∷ others) t u m n alike (mid, first, rest, are, one, later) (mid', first', rest', are', one', later') fail =
       let split : FailAlike (first.stores ++ (rest.stores ++ m)) (first'.stores ++ (rest'.stores ++ n)) =
       subst (λ (x : List StoreCall). FailAlike x (first'.stores ++ (rest'.stores ++ n))) (ap (λ (x : Trace). x.stores ++ m) are ∙ append_assoc first.stores rest.stores m)
-          (subst (λ (y : List StoreCall). FailAlike (t.stores ++ m) y) (ap (λ (x : Trace). x.stores ++ n) are' ∙ append_assoc first'.stores rest'.stores n) fail) in
+      (subst (λ (y : List StoreCall). FailAlike (t.stores ++ m) y) (ap (λ (x : Trace). x.stores ++ n) are' ∙ append_assoc first'.stores rest'.stores n) fail) in
       let here = serve_alike a b mid mid' c.actor c.command r.answer s.answer first first' (rest.stores ++ m) (rest'.stores ++ n) alike one.served one'.served one.leads one'.leads split in
-      let there = all_alike mid mid' a' b' commands replies others rest rest' m n here.2 later later' here.3 in
-      (
+      let there = all_alike mid mid' a' b' commands replies others rest rest' m n here.2 later later' here.3 in (
         ap (λ x. x ∷ others) (reply_same r s c one.phase one.actor one.call one'.phase one'.actor one'.call here.0) ∙ ap (λ x. r ∷ x) there.0,
         subst (λ (x : Trace). AreSameShots x.shots u.shots) (sym are) (subst (λ (y : Trace). AreSameShots (and_then first rest).shots y.shots) (sym are') (shots_on first.shots first'.shots rest.shots rest'.shots here.1 there.1)),
         there.2,

@@ -8,7 +8,7 @@ use Rattle.run_report.specs.declared.shot.Shot.{Shot}
 use Rattle.store_calls.specs.Calls.{StoreCall, FailAlike}
 use Rattle.view_script.specs.Script.{NumberedCommand}
 use Rattle.team_run.specs.Desk.{Desk}
-use Rattle.team_run.specs.Run.{Completes, IsRunOf}
+use Rattle.team_run.specs.Run.{IsRunOf, run_calls}
 use Rattle.alike_caches.specs.Alike.{AreAlike, AreAlikeBut}
 use Rattle.alike_runs.specs.Holding.{HoldAlike}
 
@@ -35,10 +35,6 @@ pub record TellAlike (report other : Report) : Type 0 where
   pub shots : AreSameShots report.shots other.shots
   pub tally : other.tally ≡ report.tally
   pub unsaved : other.unsaved ≡ report.unsaved
-
--- the calls of the stores of a run: those of its commands, and the puts of its shutting
-abbrev pub run_calls : {first : Desk} {commands : List NumberedCommand} {after : List Contents} {report : Report} → Completes first commands after report → List StoreCall
-run_calls run = run.trace.stores ++ run.closing_calls
 
 -- What a run tells, paints and leaves is one function of its commands, of what the stores hold, and of which calls of the stores failed or found no memory;
 -- but for what is held under the keys of the cells that are named unsaved.

@@ -1,6 +1,25 @@
-//! Scratch.
+//! The law of runs on one thread: what a run tells, paints and leaves is one function of its commands, of what its stores hold, and of which of
+//! their calls failed or found no memory. There is no code to run here.
 #![tactic(auto)]
 
-/// Nothing.
-pub fn nothing()
-{}
+ghost use Rattle.alike_runs.specs.Runs.{RunsAreAlike};
+
+use alike_caches::{
+    acquires_are_alike, gets_are_alike, quiet_is_alike, reads_are_alike, sets_are_alike,
+    shuts_are_alike,
+};
+use alike_frames::pictures_are_one;
+
+/// Runs of the same commands over stores that hold the same, whose calls of the stores fail alike, tell the same, with the same
+/// pictures, and leave the same but under the edited keys of cells that are named unsaved.
+pub fn runs_are_alike()
+    ensures { RunsAreAlike }
+{
+    acquires_are_alike();
+    reads_are_alike();
+    quiet_is_alike();
+    gets_are_alike();
+    sets_are_alike();
+    shuts_are_alike();
+    pictures_are_one();
+}

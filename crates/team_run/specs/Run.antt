@@ -85,8 +85,8 @@ pub record Completes (first : Desk) (commands : List NumberedCommand) (after : L
   pub unsaved : List Unsaved
   pub closed : AreClosed last.cache.slots unsaved closing
   -- the stores have one history too: the calls of the commands, and the puts of the shutting
-  pub closing_calls : List StoreCall
   pub called : AreCalled trace.stores first.cache.shown last.cache.shown
+  pub closing_calls : List StoreCall
   pub closing_called : AreCalled closing_calls last.cache.shown after
   pub puts : ArePut last.cache.levels (length last.cache.shown) last.cache.slots unsaved closing_calls
   pub valid : IsCache last.cache
@@ -103,6 +103,10 @@ pub record Completes (first : Desk) (commands : List NumberedCommand) (after : L
   pub stood : IsStoodFor shut
   -- one fault licenses one answer: the counts of the stores rose by as many as are told, as long as none stands at its last value
   pub licensed : Licenses first.cache.shown (fault_replies report.replies + fault_servings trace.servings + failed_puts report.unsaved) after
+
+-- the calls of the stores of a run: those of its commands, and the puts of its shutting
+abbrev pub run_calls : {first : Desk} {commands : List NumberedCommand} {after : List Contents} {report : Report} → Completes first commands after report → List StoreCall
+run_calls run = run.trace.stores ++ run.closing_calls
 
 -- The run of commands over a new cache, whose arrays are what its stores stand for, and an empty queue.
 pub record IsRunOf (levels : List Level) (keys : KeyNames) (slots : ℕ) (commands : List NumberedCommand) (before after : List Contents) (report : Report) : Type 0 where
