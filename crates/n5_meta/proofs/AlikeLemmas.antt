@@ -1,5 +1,5 @@
 -- Stores that hold the same are asked the same and decide the same, as long as their calls fail alike.
-use Rattle.std.proofs.Common.{◌≡◌, ◌≢◌, ◌∙◌, inl, inr, ℕ, ◌^◌, ◌<◌, ◌≤◌, ◌||◌, Bool, true, false, List, [], ◌∷◌, ◌++◌, length, Option, Some, None, Result, Ok, Err, refl, sym, ap, subst, arith, append_assoc}
+use Rattle.std.proofs.Common.{◌≡◌, ◌≢◌, ◌∙◌, inl, inr, ℕ, ◌^◌, ◌||◌, Bool, true, false, List, [], ◌∷◌, ◌++◌, length, Option, Result, Ok, Err, refl, sym, ap, subst, arith, append_assoc}
 use Rattle.std.specs.Prelude.{IsTrue}
 use Rattle.std.specs.List.{list_any}
 use Rattle.std.proofs.lemmas.List.{append-nil}
@@ -138,7 +138,7 @@ module _ {A : Type 0} (key : List ℕ) (decided : Got → List ℕ → Result A 
   once_alike a b left right k l m n r s held one other (inr asked) (inl (none, inr is)) wants wants' fail = absurd (none_wanted l s none wants' is)
   once_alike a b left right k l m n r s held one other (inr (x, f, are, is)) (inr (y, g, are', is')) wants wants' fail =
       let same = two_gets a b left right m n x y f g r s held (subst (λ c. AreCalled c (a ∷ []) left) are one) (subst (λ c. AreCalled c (b ∷ []) right) are' other) is is'
-          (subst (λ c. WantsInGets c r) are wants) (subst (λ c. WantsInGets c s) are' wants') (subst (λ c. FailAlike (get x f ∷ m) (c ++ n)) are' (subst (λ c. FailAlike (c ++ m) (l ++ n)) are fail)) in
+      (subst (λ c. WantsInGets c r) are wants) (subst (λ c. WantsInGets c s) are' wants') (subst (λ c. FailAlike (get x f ∷ m) (c ++ n)) are' (subst (λ c. FailAlike (c ++ m) (l ++ n)) are fail)) in
       record { answer = same.answer; calls = are' ∙ same.calls ∙ sym are; rest = same.rest; a = same.a; b = same.b; left_is = same.left_is; right_is = same.right_is; held = same.held }
 
   pub once_decided : IsDecided (AsksOnce key decided)
@@ -175,7 +175,7 @@ module _ {A B : Type 0} (first : Asking A) (next : A → Asking B) (begins : IsD
         → AsksAfter x next q r → AsksAfter x next q' s → WantsInGets (p ++ q) r → WantsInGets (p' ++ q') s → AreSame r s (p ++ q) (p' ++ q') m n left right
     after_alike (Ok x) mid mid' same asked asked' one other after after' wants wants' =
         let more = (goes_on x).alike same.a same.b left right q q' m n r s same.held (subst (λ c. AreCalled q c left) same.left_is one) (subst (λ c. AreCalled q' c right) same.right_is other)
-            after after' (wants_rest x p q r asked wants) (wants_rest x p' q' s asked' wants') same.rest in
+        after after' (wants_rest x p q r asked wants) (wants_rest x p' q' s asked' wants') same.rest in
         record { answer = more.answer; calls = ap (λ c. c ++ q') same.calls ∙ ap (λ c. p ++ c) more.calls; rest = more.rest; a = more.a; b = more.b; left_is = more.left_is; right_is = more.right_is; held = more.held }
     after_alike (Err err) mid mid' same asked asked' one other (none, is) (none', is') wants wants' = record {
       answer = is' ∙ sym is;
@@ -196,14 +196,14 @@ module _ {A B : Type 0} (first : Asking A) (next : A → Asking B) (begins : IsD
         let fail' = subst (λ c. FailAlike (p ++ (q ++ m)) c) (append_assoc p' q' n) (subst (λ c. FailAlike c ((p' ++ q') ++ n)) (append_assoc p q m) fail) in
         let same = begins.alike a b apart.0 apart'.0 p p' (q ++ m) (q' ++ n) x y held apart.1 apart'.1 asked asked' (wants_first x p q r after wants) (wants_first y p' q' s after' wants') fail' in
         after_alike x apart.0 apart'.0 (record { answer = refl; calls = same.calls; rest = same.rest; a = same.a; b = same.b; left_is = same.left_is; right_is = same.right_is; held = same.held })
-            asked (subst (λ (z : Result A OpenErr). first p' z) same.answer asked') apart.2 apart'.2 after (subst (λ (z : Result A OpenErr). AsksAfter z next q' s) same.answer after') wants wants'
+        asked (subst (λ (z : Result A OpenErr). first p' z) same.answer asked') apart.2 apart'.2 after (subst (λ (z : Result A OpenErr). AsksAfter z next q' s) same.answer after') wants wants'
 
   then_alike : (a b : Contents) (left right : List Contents) (k l m n : List StoreCall) (r s : Result B OpenErr) → HoldAlike a b → AreCalled k (a ∷ []) left → AreCalled l (b ∷ []) right
       → AsksThen first next k r → AsksThen first next l s → WantsInGets k r → WantsInGets l s → FailAlike (k ++ m) (l ++ n) → AreSame r s k l m n left right
   then_alike a b left right k l m n r s held one other (x, p, q, split, asked, after) (y, p', q', split', asked', after') wants wants' fail =
       let same = parts_alike left right p q p' q' m n r s a b x y held (subst (λ c. AreCalled c (a ∷ []) left) split one) (subst (λ c. AreCalled c (b ∷ []) right) split' other) asked asked' after after'
-          (subst (λ c. WantsInGets c r) split wants) (subst (λ c. WantsInGets c s) split' wants')
-          (subst (λ c. FailAlike ((p ++ q) ++ m) (c ++ n)) split' (subst (λ c. FailAlike (c ++ m) (l ++ n)) split fail)) in
+      (subst (λ c. WantsInGets c r) split wants) (subst (λ c. WantsInGets c s) split' wants')
+      (subst (λ c. FailAlike ((p ++ q) ++ m) (c ++ n)) split' (subst (λ c. FailAlike (c ++ m) (l ++ n)) split fail)) in
       record { answer = same.answer; calls = split' ∙ same.calls ∙ sym split; rest = same.rest; a = same.a; b = same.b; left_is = same.left_is; right_is = same.right_is; held = same.held }
 
   pub then_decided : IsDecided (AsksThen first next)

@@ -1,5 +1,5 @@
 -- What is asked of a store in a row: one get, the gets of the levels so far, and what a refusal leaves out.
-use Rattle.std.proofs.Common.{◌≡◌, ◌⊎◌, inl, inr, ℕ, ◌+◌, ◌<◌, ◌≤◌, ◌^◌, List, [], ◌∷◌, ◌++◌, length, drop, Result, Ok, Err, refl, sym, ap, ◌∙◌, subst, append_assoc}
+use Rattle.std.proofs.Common.{◌≡◌, inl, inr, ℕ, ◌+◌, ◌<◌, ◌≤◌, ◌^◌, List, [], ◌∷◌, ◌++◌, length, drop, Result, Ok, Err, refl, sym, subst, append_assoc}
 use Rattle.std.proofs.Math.ListN.{get_or, drop_of_length-le}
 use Rattle.std.proofs.lemmas.List.{at_drop_more, append-nil}
 use Rattle.cell_grid.specs.declared.level.Level.{Level}
@@ -96,9 +96,9 @@ module _ (root : List ℕ) (factors : List (List ℕ)) (level : ℕ) (d : List �
     called = called_on (a ∷ []) (b ∷ []) (c ∷ []) so_far.calls g.calls so_far.called g.called;
     more = λ rest others h.
         let here = so_far.more (g.calls ++ rest) (others >>= (λ after. Ok (record { factor = get_or factors level d; attr = attr } ∷ after)))
-            (next_level _ _ (Ok attr, g.calls, rest, refl, g.asked, (others, rest, [], sym (append-nil rest), h, kept attr others))) in
+        (next_level _ _ (Ok attr, g.calls, rest, refl, g.asked, (others, rest, [], sym (append-nil rest), h, kept attr others))) in
         subst (λ r. AsksLevels root 0 factors ((so_far.calls ++ g.calls) ++ rest) r) (prefixed_more front _ others)
-            (subst (λ calls. AsksLevels root 0 factors calls (prefixed front (others >>= (λ after. Ok (record { factor = get_or factors level d; attr = attr } ∷ after))))) (sym (append_assoc so_far.calls g.calls rest)) here);
+        (subst (λ calls. AsksLevels root 0 factors calls (prefixed front (others >>= (λ after. Ok (record { factor = get_or factors level d; attr = attr } ∷ after))))) (sym (append_assoc so_far.calls g.calls rest)) here);
   }
 
   -- its attributes are refused

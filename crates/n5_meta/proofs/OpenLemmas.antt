@@ -1,12 +1,9 @@
 -- Openings of a pyramid over stores that hold the same are alike.
-use Rattle.std.proofs.Common.{◌≡◌, ◌∙◌, ℕ, ◌+◌, List, [], ◌∷◌, ◌++◌, Result, Ok, Err, refl, sym, subst}
-use Rattle.cell_grid.specs.declared.level.Level.{Level}
+use Rattle.std.proofs.Common.{◌≡◌, ℕ, ◌+◌, List, [], ◌∷◌, Ok, Err, refl, sym, subst}
 use Rattle.cell_store.specs.Store.{Contents}
 use Rattle.cell_store.specs.declared.store.Got.TheVariants as got
-use Rattle.store_calls.specs.Calls.{StoreCall, AreCalled, FailAlike}
-use Rattle.n5_meta.specs.declared.open_err.OpenErr.{OpenErr}
 use Rattle.n5_meta.specs.declared.open_err.OpenErr.TheVariants as refused
-use Rattle.n5_meta.specs.Asks.{AsksLevels, AsksNothing, AsksOnce, AsksPyramid, AsksThen, WantsInGets, attr_by, pyramid_of, setup_by}
+use Rattle.n5_meta.specs.Asks.{AsksLevels, AsksNothing, AsksOnce, AsksPyramid, AsksThen, attr_by, pyramid_of, setup_by}
 use Rattle.n5_meta.specs.Laws.{HoldAlike, OpeningsAreAlike}
 use Rattle.n5_meta.specs.Pyramid.{level_key, setup_key}
 use Rattle.n5_meta.proofs.AlikeLemmas.{IsDecided, nothing_decided, once_decided, then_decided}

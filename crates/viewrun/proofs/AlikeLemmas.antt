@@ -110,8 +110,8 @@ module _ (Key : List ℕ → Type 0) (s t : Shot) (name : t.name ≡ s.name) (pi
       let same = same_put (picture_key s.name) (file_of s.picture) (picture_key t.name) (file_of t.picture) x y fail.0 fail.1 in
       let one = subst (λ (c : Contents). Puts c after (picture_key s.name) (file_of s.picture) x) here puts in
       let other = subst (λ (z : Put). Puts b after' (picture_key s.name) (file_of s.picture) z) same
-          (subst (λ p. Puts b after' (picture_key s.name) (file_of p) y) picture (subst (λ (n : List ℕ). Puts b after' (picture_key n) (file_of t.picture) y) name
-          (subst (λ (c : Contents). Puts c after' (picture_key t.name) (file_of t.picture) y) there puts'))) in
+      (subst (λ p. Puts b after' (picture_key s.name) (file_of p) y) picture (subst (λ (n : List ℕ). Puts b after' (picture_key n) (file_of t.picture) y) name
+      (subst (λ (c : Contents). Puts c after' (picture_key t.name) (file_of t.picture) y) there puts'))) in
       record {
         named = put_named s t x u v name tells (subst (λ (z : Put). TellsPut t z v) same tells');
         calls = ap (λ z. Putting 0 (picture_key t.name) (file_of t.picture) z ∷ []) same ∙ ap (λ p. Putting 0 (picture_key t.name) (file_of p) x ∷ []) picture
@@ -134,7 +134,7 @@ where_alike Key false s t a b left right k l m n u v name picture held (none, no
     none_alike Key u v k l m n a b left right held no_name no_name' none none' one other fail
 where_alike Key true s t a b left right k l m n u v name picture held (x, is, tells) (y, is', tells') one other fail =
     let same = two_puts Key s t name (picture refl) a b left right m n x y u v held (subst (λ c. AreCalled c (a ∷ []) left) is one) (subst (λ c. AreCalled c (b ∷ []) right) is' other) tells tells'
-        (subst (λ c. FailAlike (Putting 0 (picture_key s.name) (file_of s.picture) x ∷ m) (c ++ n)) is' (subst (λ c. FailAlike (c ++ m) (l ++ n)) is fail)) in
+    (subst (λ c. FailAlike (Putting 0 (picture_key s.name) (file_of s.picture) x ∷ m) (c ++ n)) is' (subst (λ c. FailAlike (c ++ m) (l ++ n)) is fail)) in
     record { named = same.named; calls = is' ∙ same.calls ∙ sym is; rest = same.rest; a = same.a; b = same.b; left_is = same.left_is; right_is = same.right_is; held = same.held }
 
 -- calls in a row are made one part after the other
@@ -159,10 +159,10 @@ all_alike Key (s ∷ shots) (t ∷ others) a b left right k l m n u v agree held
     let apart = called_apart p q (a ∷ []) left (subst (λ c. AreCalled c (a ∷ []) left) split one) in
     let apart' = called_apart p' q' (b ∷ []) right (subst (λ c. AreCalled c (b ∷ []) right) split' other) in
     let fail' = subst (λ c. FailAlike (p ++ (q ++ m)) c) (append_assoc p' q' n) (subst (λ c. FailAlike c ((p' ++ q') ++ n)) (append_assoc p q m)
-        (subst (λ c. FailAlike ((p ++ q) ++ m) (c ++ n)) split' (subst (λ c. FailAlike (c ++ m) (l ++ n)) split fail))) in
+    (subst (λ c. FailAlike ((p ++ q) ++ m) (c ++ n)) split' (subst (λ c. FailAlike (c ++ m) (l ++ n)) split fail))) in
     let now = where_alike Key s.shown s t a b apart.0 apart'.0 p p' (q ++ m) (q' ++ n) first first' agree.0 agree.2 held here (subst (λ shown. IsPutWhere shown t p' first') agree.1 here') apart.1 apart'.1 fail' in
     let later = all_alike (λ key. Key key × (is_unwritten first key ≡ false)) shots others now.a now.b left right q q' m n rest rest' agree.3 now.held next next'
-        (subst (λ c. AreCalled q c left) now.left_is apart.2) (subst (λ c. AreCalled q' c right) now.right_is apart'.2) now.rest in
+    (subst (λ c. AreCalled q c left) now.left_is apart.2) (subst (λ c. AreCalled q' c right) now.right_is apart'.2) now.rest in
     record {
       named = subst (λ w. NamedAlike w v) (sym told) (subst (λ w. NamedAlike (first ++ rest) w) (sym told') (named_on first rest first' rest' now.named later.named));
       calls = split' ∙ ap (λ c. c ++ q') now.calls ∙ ap (λ c. p ++ c) later.calls ∙ sym split;
@@ -183,9 +183,12 @@ pub writings_alike : WritingsAreAlike
 writings_alike Key shots others a b c d k l m n u v agree held one other fail =
     let same = all_alike Key shots others a b (c ∷ []) (d ∷ []) k l m n u v agree held one.are other.are one.called other.called fail in
     let left : same.a ≡ c = heads same.a c (sym same.left_is) in
-    let right : same.b ≡ d = heads same.b d (sym same.right_is) in
-    (same.named, same.calls, same.rest,
-    subst (λ (x : Contents). HoldAlikeUnder (λ key. Key key × (is_unwritten u key ≡ false)) x d) left (subst (λ (y : Contents). HoldAlikeUnder (λ key. Key key × (is_unwritten u key ≡ false)) same.a y) right same.held))
+    let right : same.b ≡ d = heads same.b d (sym same.right_is) in (
+      same.named,
+      same.calls,
+      same.rest,
+      subst (λ (x : Contents). HoldAlikeUnder (λ key. Key key × (is_unwritten u key ≡ false)) x d) left (subst (λ (y : Contents). HoldAlikeUnder (λ key. Key key × (is_unwritten u key ≡ false)) same.a y) right same.held),
+    )
   where
     heads : (x y : Contents) → x ∷ [] ≡ y ∷ [] → x ≡ y
     heads x y e = cc

@@ -15,8 +15,10 @@ pub puts_with : (shots : List Shot) (a b : Contents) (u : List Unwritten) → Pu
 puts_with [] a b u (same, none) = ([], record { are = (refl, none); called = ap (λ c. c ∷ []) same })
 puts_with (x ∷ shots) a b u (mid, first, rest, told, here, others) =
     let one = shot_calls x.shown x a mid first here in
-    let more = puts_with shots mid b rest others in
-    (one.0 ++ more.0, record {
-      are = (one.0, more.0, first, rest, refl, told, one.1, more.1.are);
-      called = called_on (a ∷ []) (mid ∷ []) (b ∷ []) one.0 more.0 one.2 more.1.called;
-    })
+    let more = puts_with shots mid b rest others in (
+      one.0 ++ more.0,
+      record {
+        are = (one.0, more.0, first, rest, refl, told, one.1, more.1.are);
+        called = called_on (a ∷ []) (mid ∷ []) (b ∷ []) one.0 more.0 one.2 more.1.called;
+      },
+    )

@@ -1,12 +1,12 @@
 -- The one get of the setup's attributes, and what its answer decides.
-use Rattle.std.proofs.Common.{◌≡◌, ◌∙◌, ◌&&◌, List, ℕ, Ok, Err, false, true, length, nat_lt, nat_le, refl, ap, subst, sym, arith}
+use Rattle.std.proofs.Common.{◌≡◌, ◌∙◌, List, ℕ, Ok, Err, ap, subst, sym, arith}
 use Rattle.std.proofs.lemmas.Grind.{common_steps}
 use Rattle.std.proofs.lemmas.Result.{err_from_is_err_and}
 use Rattle.n5_meta.specs.declared.spot.Spot.TheVariants as spot
 use Rattle.n5_meta.specs.declared.open_err.OpenErr.TheVariants.{LevelCount}
 use Rattle.n5_meta.specs.Asks.{setup_by}
 use Rattle.n5_meta.specs.Factors.{factors_in}
-use Rattle.n5_meta.specs.Pyramid.{few_levels, setup_key}
+use Rattle.n5_meta.specs.Pyramid.{few_levels}
 use Rattle.n5_meta.specs.Value.{Answers}
 use Rattle.n5_meta.proofs.AskLemmas.{asked_found, asked_refused, got_at}
 use Rattle.n5_meta.proofs.DecideLemmas.{setup_bad, setup_good, setup_refused}
