@@ -1,5 +1,5 @@
 -- What a run leaves: as many stores as it was given, a shot for each view, and its pictures in the first store.
-use Rattle.std.proofs.Common.{◌≡◌, ◌∙◌, ℕ, ◌+◌, List, Result, Ok, length, map, sym, ap, subst}
+use Rattle.std.proofs.Common.{◌≡◌, ◌∙◌, ℕ, ◌+◌, List, Result, Ok, length, map, refl, sym, ap, subst, ◌++◌}
 use Rattle.std.specs.List.{IsDistinct}
 use Rattle.std.specs.Str.{bytes_eq}
 use Rattle.cell_file.specs.Keys.{KeyNames}
@@ -11,14 +11,15 @@ use Rattle.run_report.specs.declared.stop.Stop.{Stop}
 use Rattle.sole_cache.specs.Shut.{Licenses, failed_puts}
 use Rattle.team_run.specs.declared.ran.RunErr.{RunErr}
 use Rattle.team_run.specs.Range.{commands_over}
-use Rattle.team_run.specs.Run.{SoloAnswers, fault_replies, fault_servings}
+use Rattle.store_calls.specs.Calls.{StoreCall}
+use Rattle.team_run.specs.Run.{SoloAnswers, fault_replies, fault_servings, run_calls}
 use Rattle.view_script.specs.declared.script.Script.{Script}
 use Rattle.view_script.specs.Script.{NumberedCommand, view_names}
 use Rattle.viewrun.specs.declared.work.Done.{Done}
 use Rattle.viewrun.specs.Pictures.{view_count}
 use Rattle.viewrun.specs.Volume.{keys_of}
 use Rattle.viewrun.specs.Work.{RunsOpen, WritesShots}
-use Rattle.viewrun.proofs.StoresLemmas.{licensed_on, pictures_written}
+use Rattle.viewrun.proofs.StoresLemmas.{licensed_on, pictures_put, pictures_written}
 use Rattle.viewrun.proofs.ViewLemmas.{names_of_views, shot_name, shots_are_views}
 
 module _ (levels : List Level) (keys : KeyNames) (slots : ℕ) (commands : List NumberedCommand) (old mid : List Contents) (report : Report) where
@@ -38,7 +39,7 @@ a_shot_a_view levels keys slots script old mid report answer is solo =
 -- a run was carried out, and then its pictures were put
 pub runs_and_writes : (levels : List Level) (keys : KeyNames) (slots : ℕ) (script : Script) (old mid new : List Contents) (report : Report) (answer : Result Report RunErr) (work : Result Done Stop)
     → IsPyramid levels → IsDistinct bytes_eq (view_names script.phases) → keys ≡ keys_of script.head levels → answer ≡ Ok report → SoloAnswers levels keys slots (commands_over levels script) old mid answer → WritesShots report mid new work
-    → RunsOpen script slots levels old new work
+    → (calls : List StoreCall) × RunsOpen script slots levels old new calls work
 runs_and_writes levels keys slots script old mid new report answer work pyramid distinct made is solo writes =
     let own : SoloAnswers levels (keys_of script.head levels) slots (commands_over levels script) old mid (Ok report) =
     subst (λ (k : KeyNames). SoloAnswers levels k slots (commands_over levels script) old mid (Ok report)) made (answered levels keys slots (commands_over levels script) old mid report answer is solo) in
@@ -46,10 +47,14 @@ runs_and_writes levels keys slots script old mid new report answer work pyramid 
     let licensed : Licenses old told mid = subst (λ (l : List Contents). Licenses l told mid) own.1.begins own.1.completes.licensed in
     let names : IsDistinct bytes_eq (map shot_name report.shots) =
     subst (λ (l : List (List ℕ)). IsDistinct bytes_eq l) (sym (names_of_views levels (keys_of script.head levels) slots script old mid report own.1)) distinct in
-    subst (λ (w : Result Done Stop). RunsOpen script slots levels old new w) (sym writes.done) (record {
+    let put = pictures_put report.shots writes.unwritten mid new writes.puts in
+    subst (λ (w : Result Done Stop). (calls : List StoreCall) × RunsOpen script slots levels old new calls w) (sym writes.done) (run_calls own.1.completes ++ put.0, record {
       within = own.0;
       mid = mid;
       run = own.1;
       writes = pictures_written levels (keys_of script.head levels) report.shots writes.unwritten mid new pyramid names writes.puts;
+      puts = put.0;
+      put = put.1;
+      calls_are = refl;
       licensed = licensed_on old mid new report.shots writes.unwritten told writes.puts licensed;
     })

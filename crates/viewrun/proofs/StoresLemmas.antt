@@ -11,7 +11,8 @@ use Rattle.run_report.specs.declared.report.Unwritten.{Unwritten}
 use Rattle.run_report.specs.declared.shot.Shot.{Shot}
 use Rattle.sole_cache.specs.Cached.{store_in}
 use Rattle.sole_cache.specs.Shut.{AreCounting, Licenses, all_faults}
-use Rattle.viewrun.specs.Pictures.{PutsShots, WritesPictures, failed_pictures}
+use Rattle.store_calls.specs.Calls.{StoreCall}
+use Rattle.viewrun.specs.Pictures.{PutsShots, PutsWith, WritesPictures, failed_pictures}
 use Rattle.viewrun.specs.Stores.{FirstChanges}
 use Rattle.viewrun.proofs.LogLemmas.{counts_alike}
 use Rattle.viewrun.proofs.PictureLemmas.{others_keep, pictures_rise, stands_alike}
@@ -34,8 +35,6 @@ pictures_written levels keys shots u (a ∷ old) [] pyramid distinct puts = absu
 pictures_written levels keys shots u (a ∷ old) (b ∷ new) pyramid distinct puts = (
   record {
     puts = puts.0;
-    calls = (puts_with shots a b u puts.0).0;
-    asks = (puts_with shots a b u puts.0).1;
     written = all_written shots a b u distinct puts.0;
     others = λ told key other. others_keep shots a b u key puts.0 told other;
     stands = stands_alike levels keys shots a b u pyramid puts.0;
@@ -43,6 +42,12 @@ pictures_written levels keys shots u (a ∷ old) (b ∷ new) pyramid distinct pu
   },
   puts.1,
 )
+
+-- the calls by which they were put
+pub pictures_put : (shots : List Shot) (u : List Unwritten) (old new : List Contents) → FirstChanges (λ a b. PutsShots shots a b u) old new → (calls : List StoreCall) × FirstChanges (λ a b. PutsWith shots calls a b u) old new
+pictures_put shots u [] new puts = absurd puts
+pictures_put shots u (a ∷ old) [] puts = absurd puts
+pictures_put shots u (a ∷ old) (b ∷ new) puts = let asked = puts_with shots a b u puts.0 in (asked.0, asked.1, puts.1)
 
 all_of : (x : Contents) (xs : List Contents) → all_faults (x ∷ xs) ≡ x.faults + all_faults xs
 all_of x xs = sum_by-cons (λ (s : Contents). s.faults) x xs

@@ -101,8 +101,6 @@ IsOther shots key = All (λ s. bytes_eq (picture_key s.name) key ≡ false) shot
 -- The pictures of a run were put into a store, none under the key of a cell or of another picture.
 pub record WritesPictures (levels : List Level) (keys : KeyNames) (shots : List Shot) (unwritten : List Unwritten) (old new : Contents) : Type 0 where
   pub puts : PutsShots shots old new unwritten
-  pub calls : List StoreCall
-  pub asks : PutsWith shots calls old new unwritten
   pub written : IsTrue old.told → All (IsWritten unwritten new) shots
   pub others : IsTrue old.told → (key : List ℕ) → IsOther shots key → new.held key ≡ old.held key
   pub stands : StandsAlike levels keys old new

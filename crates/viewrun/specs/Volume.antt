@@ -9,6 +9,7 @@ use Rattle.cell_grid.specs.GridErr.{broken_rule, broken_level}
 use Rattle.cell_store.specs.Store.{Contents}
 use Rattle.n5_meta.specs.declared.open_err.OpenErr.{OpenErr}
 use Rattle.n5_meta.specs.declared.open_err.OpenErr.TheVariants as refused
+use Rattle.n5_meta.specs.Asks.{Asking, AsksPyramid}
 use Rattle.n5_meta.specs.Gets.{Opens}
 use Rattle.n5_meta.specs.Pyramid.{Answers, grid_or, pyramid_in}
 use Rattle.view_script.specs.declared.script.Head.{Head}
@@ -39,6 +40,11 @@ AnswersAlways opened meant = meant ≡ opened
 abbrev pub OpensVolume : Head → Contents → Contents → Result (List Level) OpenErr → Type 0
 OpensVolume (head.Raw root kind dims cell) old new opened = AnswersAlways opened (raw_levels kind dims cell) × (new ≡ old)
 OpensVolume (head.Pyramid root) old new opened = OpensPyramid root old new opened
+
+-- the calls of the stores by which a script's volume is opened, and the answer that they decide; a raw volume asks nothing
+abbrev pub AsksVolume : Head → Asking (List Level)
+AsksVolume (head.Raw root kind dims cell) calls opened = calls ≡ []
+AsksVolume (head.Pyramid root) calls opened = AsksPyramid root calls opened
 
 -- whether the blocks lie right under the root
 abbrev pub is_plain : Head → Bool

@@ -1,5 +1,6 @@
 // The run of a script on one thread: what is read, opened and run, and the first refusal in this order.
-ghost use Rattle.std.specs.Prelude.{◌≡◌, ◌≤◌, [], Err, length, map, vec_capacity, vec_len};
+ghost use Rattle.std.specs.Prelude.{◌≡◌, ◌≤◌, List, [], Err, length, map, vec_capacity, vec_len};
+ghost use Rattle.store_calls.specs.Calls.{StoreCall};
 ghost use Rattle.view_script.specs.Script.{IsScript};
 ghost use Rattle.viewrun.specs.Volume.{IsMade};
 ghost use Rattle.viewrun.specs.Work.{OpensAndRuns, ReadsAndRuns, RunsOpen, WritesShots};
@@ -25,7 +26,7 @@ pub fn run_script<S: Store, R: Source>(
 ) -> Worked<S>
     requires some_stores { 1 ≤ vec_len stores }
     requires few_stores { vec_len stores ≤ 16 }
-    ensures { ReadsAndRuns slots (R.stream source.old) (R.stream source.new) (map S.contents stores.items) (map S.contents result.stores.items) result.work }
+    ensures { (calls : List StoreCall) × ReadsAndRuns slots (R.stream source.old) (R.stream source.new) (map S.contents stores.items) (map S.contents result.stores.items) calls result.work }
 {
     match script_of(alloc, source) {
         Ok(script) => open_and_run(alloc, script, slots, stores),
@@ -43,7 +44,7 @@ fn open_and_run<S: Store>(
     requires script { IsScript script }
     requires some_stores { 1 ≤ vec_len stores }
     requires few_stores { vec_len stores ≤ 16 }
-    ensures { OpensAndRuns script slots (map S.contents stores.items) (map S.contents result.stores.items) result.work }
+    ensures { (calls : List StoreCall) × OpensAndRuns script slots (map S.contents stores.items) (map S.contents result.stores.items) calls result.work }
 {
     match open_volume(alloc, &script.head, &mut stores[0]) {
         Ok(geometry) => run_open(alloc, geometry, script, slots, stores),
@@ -64,7 +65,7 @@ fn run_open<S: Store>(
     requires made { IsMade script.head geometry }
     requires some_stores { 1 ≤ vec_len stores }
     requires few_stores { vec_len stores ≤ 16 }
-    ensures { RunsOpen script slots geometry (map S.contents stores.items) (map S.contents result.stores.items) result.work }
+    ensures { (calls : List StoreCall) × RunsOpen script slots geometry (map S.contents stores.items) (map S.contents result.stores.items) calls result.work }
 {
     let Ok(keys) = volume_keys(&script.head, &geometry) else {
         return stopped(Stop::Memory, stores);

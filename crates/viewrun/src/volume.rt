@@ -2,7 +2,8 @@
 ghost use Rattle.std.specs.Prelude.{◌≡◌, IfOk, IsTrue, length};
 ghost use Rattle.plain_data.specs.RootName as names;
 ghost use Rattle.view_script.specs.Script.{root_of};
-ghost use Rattle.viewrun.specs.Volume.{AnswersAlways, IsMade, OpensVolume, keys_of, raw_levels};
+ghost use Rattle.n5_meta.specs.Asks.{IsAsked};
+ghost use Rattle.viewrun.specs.Volume.{AnswersAlways, AsksVolume, IsMade, OpensVolume, keys_of, raw_levels};
 
 use cell_file::Keys;
 use cell_grid::{Extent, Geometry, Kind, Level, Memory};
@@ -14,6 +15,7 @@ use view_script::Head;
 /// The levels of the volume that a script's head names. A raw head asks nothing of the store.
 pub fn open_volume<S: Store>(alloc: Global, head: &Head, store: &mut S) -> Result<Geometry, OpenErr>
     ensures opens { OpensVolume head.now (S.contents store.old) (S.contents store.new) result }
+    ensures asks { IsAsked (AsksVolume head.now) (S.contents store.old) (S.contents store.new) result }
     ensures made { IfOk result (λ geometry. IsMade head.now geometry) }
 {
     match head {

@@ -1,5 +1,6 @@
 // What a call does before anything is written.
-ghost use Rattle.std.specs.Prelude.{◌≤◌, map, vec_len};
+ghost use Rattle.std.specs.Prelude.{◌≤◌, List, map, vec_len};
+ghost use Rattle.store_calls.specs.Calls.{StoreCall};
 ghost use Rattle.viewrun.specs.Words.{request_in, texts};
 ghost use Rattle.viewrun.specs.Work.{Informs, Works};
 
@@ -40,7 +41,7 @@ pub fn work<S: Store, R: Source>(
 ) -> Worked<S>
     requires some_stores { 1 ≤ vec_len stores }
     requires few_stores { vec_len stores ≤ 16 }
-    ensures { Works (request_in (texts words.now)) (R.stream script.old) (R.stream script.new) (map S.contents stores.items) (map S.contents result.stores.items) result.work }
+    ensures { (calls : List StoreCall) × Works (request_in (texts words.now)) (R.stream script.old) (R.stream script.new) (map S.contents stores.items) (map S.contents result.stores.items) calls result.work }
 {
     match request_of(words) {
         Some(Request::Info { root }) => inform(alloc, root.text(), stores),
@@ -55,7 +56,7 @@ pub fn work<S: Store, R: Source>(
 /// Reads the levels of the pyramid under a root from the first store.
 fn inform<S: Store>(alloc: Global, root: &str, mut stores: Vec<S>) -> Worked<S>
     requires { 1 ≤ vec_len stores }
-    ensures { Informs root.now (map S.contents stores.items) (map S.contents result.stores.items) result.work }
+    ensures { (calls : List StoreCall) × Informs root.now (map S.contents stores.items) (map S.contents result.stores.items) calls result.work }
 {
     let work = match open_pyramid(alloc, &mut stores[0], root) {
         Ok(geometry) => Ok(Done::Levels(geometry)),
