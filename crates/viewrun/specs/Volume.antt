@@ -9,17 +9,19 @@ use Rattle.cell_grid.specs.GridErr.{broken_rule, broken_level}
 use Rattle.cell_store.specs.Store.{Contents}
 use Rattle.n5_meta.specs.declared.open_err.OpenErr.{OpenErr}
 use Rattle.n5_meta.specs.declared.open_err.OpenErr.TheVariants as refused
+use Rattle.n5_meta.specs.Asks.{AsksPyramid, IsAsked}
 use Rattle.n5_meta.specs.Gets.{Opens}
 use Rattle.n5_meta.specs.Pyramid.{Answers, grid_or, pyramid_in}
 use Rattle.view_script.specs.declared.script.Head.{Head}
 use Rattle.view_script.specs.declared.script.Head.TheVariants as head
 use Rattle.view_script.specs.Script.{root_of}
 
--- The pyramid under a root was opened: the answer is that of what the store holds, nothing that it holds has changed, and a fault was
--- counted where one is told.
+-- The pyramid under a root was opened: the answer is that of what the store holds and of its gets, nothing that it holds has changed, and a
+-- fault was counted where one is told.
 pub record OpensPyramid (root : List ℕ) (old new : Contents) (opened : Result (List Level) OpenErr) : Type 0 where
   pub opens : Opens root old new (result_err opened)
   pub answer : IsTrue old.told → Answers (λ levels. levels) opened (pyramid_in old.held root)
+  pub asks : IsAsked (AsksPyramid root) old new opened
 
 -- the one level of a raw volume
 abbrev pub raw_level : Kind → List ℕ → List ℕ → Level
