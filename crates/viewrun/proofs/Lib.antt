@@ -10,3 +10,4 @@ mod SourceLemmas
 mod StoresLemmas
 mod ViewLemmas
 mod WrittenLemmas
+mod CalledLemmas

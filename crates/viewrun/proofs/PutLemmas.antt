@@ -1,5 +1,5 @@
 -- The puts of pictures, as calls of a store.
-use Rattle.std.proofs.Common.{◌≡◌, Bool, true, false, List, [], ◌∷◌, ◌++◌, refl, ap}
+use Rattle.std.proofs.Common.{Bool, true, false, List, [], ◌∷◌, ◌++◌, refl, ap}
 use Rattle.cell_store.specs.Store.{Contents}
 use Rattle.run_report.specs.declared.report.Unwritten.{Unwritten}
 use Rattle.run_report.specs.declared.shot.Shot.{Shot}

@@ -47,7 +47,7 @@ pictures_written levels keys shots u (a ∷ old) (b ∷ new) pyramid distinct pu
 pub pictures_put : (shots : List Shot) (u : List Unwritten) (old new : List Contents) → FirstChanges (λ a b. PutsShots shots a b u) old new → (calls : List StoreCall) × FirstChanges (λ a b. PutsWith shots calls a b u) old new
 pictures_put shots u [] new puts = absurd puts
 pictures_put shots u (a ∷ old) [] puts = absurd puts
-pictures_put shots u (a ∷ old) (b ∷ new) puts = let asked = puts_with shots a b u puts.0 in (asked.0, asked.1, puts.1)
+pictures_put shots u (a ∷ old) (b ∷ new) puts = let asked = puts_with shots a b u puts.0 in (asked.0, (asked.1, puts.1))
 
 all_of : (x : Contents) (xs : List Contents) → all_faults (x ∷ xs) ≡ x.faults + all_faults xs
 all_of x xs = sum_by-cons (λ (s : Contents). s.faults) x xs

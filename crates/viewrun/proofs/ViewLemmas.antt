@@ -30,8 +30,8 @@ abbrev numbered_name : NumberedCommand → List (List ℕ)
 numbered_name c = name_of c.command
 
 one_name : (old new : Desk) (viewer : ℕ) (command : Command) (told : Answer) (t : Trace) → IsServed old viewer command told t new → map shot_name t.shots ≡ name_of command
-one_name old new viewer (Get level pos) told t served = ap (map shot_name) served.1.shots
-one_name old new viewer (Set level pos x) told t served = ap (map shot_name) served.1.shots
+one_name old new viewer (Get level pos) told t served = ap (map shot_name) served.2.shots
+one_name old new viewer (Set level pos x) told t served = ap (map shot_name) served.2.shots
 one_name old new viewer (View name view) told t served = ap (map shot_name) served.1 ∙ ap (λ n. n ∷ []) served.3
 one_name old new viewer (Fetch count) told t served = ap (map shot_name) served.0
 

@@ -1,8 +1,7 @@
 // The pictures of a run, put into a store under their names.
-ghost use Rattle.std.specs.Prelude.{◌≡◌, ◌+◌, ◌*◌, ◌^◌, ◌<◌, ◌≤◌, ◌∷◌, ◌++◌, [], IfOk, List, count_by, length, string_bytes, sum_by, vec_capacity, vec_len};
+ghost use Rattle.std.specs.Prelude.{◌≡◌, ◌+◌, ◌*◌, ◌^◌, ◌<◌, ◌≤◌, ◌∷◌, ◌++◌, [], IfOk, count_by, length, string_bytes, sum_by, vec_capacity, vec_len};
 ghost use Rattle.cell_store.specs.Store.{Puts};
-ghost use Rattle.store_calls.specs.Calls.{StoreCall};
-ghost use Rattle.viewrun.specs.Pictures.{AddsShot, NamesBehind, PutsShots, PutsWith, file_of, header_of, is_view, picture_key, view_count};
+ghost use Rattle.viewrun.specs.Pictures.{AddsShot, NamesBehind, PutsShots, file_of, header_of, is_view, picture_key, view_count};
 
 use arrayvec::ArrayString;
 use cell_store::{Put, Store};
@@ -58,8 +57,7 @@ pub fn put_shots<S: Store>(
 )
     requires none { unwritten.old.items ≡ [] }
     requires room { length shots.now ≤ vec_capacity unwritten.old }
-    ensures puts { PutsShots shots.now (S.contents store.old) (S.contents store.new) unwritten.new.items }
-    ensures asks { (calls : List StoreCall) × PutsWith shots.now calls (S.contents store.old) (S.contents store.new) unwritten.new.items }
+    ensures { PutsShots shots.now (S.contents store.old) (S.contents store.new) unwritten.new.items }
 {
     for shot in shots {
         put_shot(alloc, store, shot, unwritten);
