@@ -11,3 +11,4 @@ mod StoresLemmas
 mod ViewLemmas
 mod WrittenLemmas
 mod CalledLemmas
+mod OpenLemmas

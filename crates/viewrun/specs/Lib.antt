@@ -7,3 +7,4 @@ pub mod Stores
 pub mod Volume
 pub mod Words
 pub mod Work
+pub mod OneFunction
