@@ -1,5 +1,5 @@
 -- The laws of frames and fetches, at a cache with its queue.
-use Rattle.std.proofs.Common.{◌≡◌, ℕ, List, [], ◌∷◌, ◌++◌, Result, Err, refl, ap}
+use Rattle.std.proofs.Common.{◌≡◌, ℕ, List, [], ◌∷◌, ◌++◌, Err, refl, ap}
 use Rattle.arr_history.specs.declared.event.Event.{Event}
 use Rattle.cell_file.specs.declared.errors.AcquireErr.{AcquireErr}
 use Rattle.fetch_queue.specs.Queue.{Queue}
@@ -11,7 +11,7 @@ use Rattle.store_calls.specs.Calls.{StoreCall}
 use Rattle.volatile_cell.specs.Asked.{Asked, AskedFrom}
 use Rattle.volatile_cell.specs.Steps.{Follows}
 use Rattle.team_run.specs.Desk.{Desk, DeskFollows, IsDeskRefusal, levels_at}
-use Rattle.team_run.specs.Fetches.{IsDeskServing, AreDeskServings, stores_of, stores_of_all}
+use Rattle.team_run.specs.Fetches.{AreDeskServings, stores_of_all}
 use Rattle.alike_frames.proofs.OverEyes as over
 
 abbrev pub cache_at : Desk → Cached

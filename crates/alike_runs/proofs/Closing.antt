@@ -1,6 +1,6 @@
 -- What the shutting of a cache counts is decided by its slots and by how many cells could not be put.
-use Rattle.std.proofs.Common.{◌≡◌, ◌∙◌, ◌⊎◌, inl, inr, ℕ, zero, suc, ◌+◌, ◌<◌, ◌≤◌, Bool, true, false, cond, List, [], ◌∷◌, ◌++◌, length, count_by, Option, None, Some, slice_index_or, refl, sym, ap, subst, arith}
-use Rattle.std.proofs.lemmas.List.{append-nil, length-append}
+use Rattle.std.proofs.Common.{◌≡◌, ◌∙◌, inl, inr, ℕ, suc, ◌+◌, ◌<◌, Bool, true, false, cond, List, [], ◌∷◌, ◌++◌, length, count_by, Option, None, Some, slice_index_or, refl, sym, ap, subst, arith}
+use Rattle.std.proofs.lemmas.List.{length-append}
 use Rattle.std.proofs.lemmas.List.Sums.{sum_by-cons, sum_by-append}
 use Rattle.arr_history.specs.declared.closed.Unsaved.{Unsaved}
 use Rattle.arr_history.specs.declared.event.Event.{Event}
@@ -9,7 +9,7 @@ use Rattle.arr_history.specs.declared.tally.Tally.{Tally}
 use Rattle.arr_history.specs.Tally.{is_hit, is_miss, is_load, is_gone, is_writeback, cut, raised}
 use Rattle.arr_history.proofs.Counts.{same_tallies}
 use Rattle.sole_cache.specs.Slot.{SlotValue}
-use Rattle.sole_cache.specs.Shut.{IsClosedCell, IsClosedAt, AreClosed}
+use Rattle.sole_cache.specs.Shut.{IsClosedAt, AreClosed}
 
 -- whether a slot has a cell, and whether it has a marked one
 unfoldable pub has_cell : Option ℕ → Bool

@@ -1,8 +1,7 @@
 -- Fetches over moments that nothing tells apart.
-use Rattle.std.proofs.Common.{◌≡◌, ◌∙◌, ℕ, List, ◌++◌, refl, sym, ap, subst}
-use Rattle.fetchers.specs.declared.fetched.Fetched.{Fetched}
+use Rattle.std.proofs.Common.{◌≡◌, ◌∙◌, List, ◌++◌, refl, sym, ap, subst}
 use Rattle.store_calls.specs.Calls.{StoreCall, FailAlike}
-use Rattle.team_run.specs.Desk.{Desk, DeskFollows, IsDeskRefusal, levels_at}
+use Rattle.team_run.specs.Desk.{DeskFollows, IsDeskRefusal, levels_at}
 use Rattle.team_run.specs.Fetches.{fetch_answer}
 use Rattle.alike_frames.proofs.OverEyes as over
 use Rattle.alike_frames.proofs.Tandem.{AlikeLaws}

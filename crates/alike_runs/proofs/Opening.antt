@@ -1,5 +1,5 @@
 -- Caches as they were made over stores that hold the same are alike.
-use Rattle.std.proofs.Common.{◌≡◌, ◌∙◌, ℕ, ◌<◌, ◌==◌, cond, IsTrue, List, [], length, Option, None, refl, sym, ap, subst, arith}
+use Rattle.std.proofs.Common.{◌≡◌, ◌∙◌, ℕ, ◌<◌, ◌==◌, cond, List, [], length, Option, sym, ap, subst}
 use Rattle.std.specs.Prelude.{unwrap_or, slice_index}
 use Rattle.std.proofs.Math.Nat.{mod-lt}
 use Rattle.cell_grid.specs.declared.level.Level.{Level}
@@ -7,7 +7,7 @@ use Rattle.cell_grid.specs.Pyramid.{lane_of}
 use Rattle.cell_file.specs.Keys.{KeyNames, AreKeys, edited_key, base_key}
 use Rattle.cell_file.specs.Standing.{standing, stands_by}
 use Rattle.arr_history.specs.History.{IsSame}
-use Rattle.sole_cache.specs.Cached.{Cached, store_in, store_of, stands, slot_of, state_at, pins_at, array_at, state_of, shape_of}
+use Rattle.sole_cache.specs.Cached.{Cached, store_in, store_of, stands, state_at, pins_at, array_at, state_of, shape_of}
 use Rattle.sole_cache.specs.Open.{IsOpened}
 use Rattle.sole_cache.specs.Valid.{IsCache}
 use Rattle.alike_caches.specs.Alike.{AreAlike}

@@ -10,8 +10,8 @@ use Rattle.view_script.specs.Script.{NumberedCommand}
 use Rattle.fetch_queue.specs.Queue.{Queue}
 use Rattle.volatile_cell.specs.Asked.{Asked, AskedFrom}
 use Rattle.team_run.specs.Desk.{Desk, DeskLeads}
-use Rattle.team_run.specs.Serve.{IsServed, Serves, ServesAll}
-use Rattle.team_run.specs.Trace.{Trace, nothing, and_then}
+use Rattle.team_run.specs.Serve.{IsServed, ServesAll}
+use Rattle.team_run.specs.Trace.{Trace, and_then}
 use Rattle.alike_caches.specs.Alike.{AreAlike}
 use Rattle.alike_caches.specs.Laws.{GetsAreAlike, SetsAreAlike}
 use Rattle.alike_runs.specs.Runs.{DesksAreAlike, IsSameShot, AreSameShots}

@@ -1,7 +1,7 @@
 -- Caches that are alike have as many cells, and as many marked ones, in their slots.
-use Rattle.std.proofs.Common.{◌≡◌, ◌∙◌, ℕ, ◌<◌, Bool, length, count_by, Option, None, Some, refl, sym, ap, subst}
-use Rattle.sole_cache.specs.Slot.{SlotValue, no_slot}
-use Rattle.sole_cache.specs.Cached.{Cached, slot_of, slot_at}
+use Rattle.std.proofs.Common.{◌≡◌, ◌∙◌, ℕ, count_by, Option, None, Some, refl, ap}
+use Rattle.sole_cache.specs.Slot.{no_slot}
+use Rattle.sole_cache.specs.Cached.{Cached, slot_at}
 use Rattle.alike_caches.specs.Alike.{AreAlike}
 use Rattle.alike_caches.proofs.Seats.{cell_same, marked_same}
 use Rattle.alike_runs.proofs.Closing.{has_cell, has_marked, is_taken, is_due, count_same}

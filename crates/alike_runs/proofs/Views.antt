@@ -1,5 +1,5 @@
 -- Views over moments that nothing tells apart.
-use Rattle.std.proofs.Common.{◌≡◌, ◌∙◌, ℕ, ◌<◌, ◌≤◌, Bool, true, false, IsTrue, List, [], ◌∷◌, ◌++◌, length, Option, None, Some, refl, sym, ap, subst, arith}
+use Rattle.std.proofs.Common.{◌≡◌, ◌∙◌, ℕ, ◌<◌, Bool, false, IsTrue, List, ◌++◌, length, Option, refl, sym, ap, subst, arith}
 use Rattle.std.specs.Prelude.{IfSome}
 use Rattle.arr_history.specs.declared.event.Event.{Event}
 use Rattle.cell_file.specs.declared.errors.AcquireErr.{AcquireErr}
@@ -11,7 +11,6 @@ use Rattle.run_report.specs.declared.shot.Shot.{Shot}
 use Rattle.scale_pick.specs.declared.painted.Painted.{Painted}
 use Rattle.scale_pick.specs.declared.view.View.{View}
 use Rattle.scale_pick.specs.Painted.{painted_of}
-use Rattle.scale_pick.specs.Picture.{Pixels}
 use Rattle.scale_pick.specs.Wanted.{wanted_level}
 use Rattle.store_calls.specs.Calls.{StoreCall, FailAlike}
 use Rattle.volatile_cell.specs.Asked.{Asked}

@@ -5,7 +5,6 @@ use Rattle.run_report.specs.declared.reply.Answer.{Answer}
 use Rattle.run_report.specs.declared.reply.Answer.TheVariants as answer
 use Rattle.run_report.specs.declared.reply.Refusal.{Refusal}
 use Rattle.run_report.specs.declared.reply.Refusal.TheVariants as refusal
-use Rattle.scale_pick.specs.declared.painted.Painted.{Painted}
 use Rattle.store_calls.specs.Calls.{StoreCall, FailAlike}
 use Rattle.sole_cache.specs.Cached.{Cached}
 use Rattle.team_run.specs.Serve.{AsksGet, AsksSet, cell_err_of, refusal_in}

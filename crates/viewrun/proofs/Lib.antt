@@ -12,3 +12,4 @@ mod ViewLemmas
 mod WrittenLemmas
 mod CalledLemmas
 mod OpenLemmas
+mod OneLemmas
