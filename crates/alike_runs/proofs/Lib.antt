@@ -1,7 +1,6 @@
 mod Ascending
 mod Once
 mod Named
-mod Naming
 mod Opening
 mod Closing
 mod Slots

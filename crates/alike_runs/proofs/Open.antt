@@ -1,5 +1,5 @@
 -- A cell that shutting names has a put of its own that was not done, and no later one.
-use Rattle.std.proofs.Common.{◌≡◌, ◌∙◌, ℕ, ◌+◌, ◌<◌, ◌≤◌, ◌==◌, ◌&&◌, Bool, true, false, cond, List, [], ◌∷◌, ◌++◌, length, take, count_by, Option, None, Some, refl, sym, ap, subst, arith}
+use Rattle.std.proofs.Common.{◌≡◌, ◌∙◌, ℕ, ◌+◌, ◌<◌, ◌≤◌, ◌==◌, ◌&&◌, Bool, true, false, cond, List, [], ◌∷◌, ◌++◌, length, take, count_by, Option, None, Some, suc, slice_index_or, refl, sym, ap, subst, arith}
 use Rattle.std.specs.Str.{bytes_eq}
 use Rattle.std.proofs.lemmas.Bool.{eqb-true}
 use Rattle.std.proofs.lemmas.Slice.Eq.{bytes_eq-Decides}
@@ -14,10 +14,17 @@ use Rattle.cell_store.specs.declared.store.Put.TheVariants as put
 use Rattle.arr_history.specs.declared.closed.Unsaved.{Unsaved}
 use Rattle.store_calls.specs.Calls.{StoreCall, is_undone, is_left_open}
 use Rattle.store_calls.proofs.Leaving.{open_on}
-use Rattle.sole_cache.specs.Slot.{SlotValue}
+use Rattle.sole_cache.specs.Slot.{SlotValue, no_slot}
+use Rattle.sole_cache.specs.Cached.{Cached, slot_at}
+use Rattle.sole_cache.specs.Valid.{IsCache}
+use Rattle.cell_file.specs.Keys.{AreKeys}
+use Rattle.cell_store.specs.Store.{Contents}
+use Rattle.store_calls.specs.Calls.{AreCalled}
+use Rattle.store_calls.proofs.Parts.{called_lanes}
+use Rattle.cell_file.proofs.KeyLemmas.{are_their_own}
 use Rattle.sole_cache.specs.Puts.{named_by, IsPutWhere, IsPutAt, ArePut}
 use Rattle.alike_caches.specs.Alike.{IsUnnamed}
-use Rattle.alike_runs.proofs.Named.{owns_at, owns}
+use Rattle.alike_runs.proofs.Named.{owns_at, owns, owned_once}
 
 same_lane : (a b : ℕ) → a ≡ b → (a == b) ≡ true
 same_lane a b e = grind (arith, nat_tests)
@@ -138,3 +145,21 @@ module _ (levels : List Level) (lanes lane : ℕ) (key : List ℕ) where
 
         only : (n : ℕ) → s.cell ≡ Some n → count_by (owns n) slots ≡ 0
         only n is = let all = sum_by-cons (λ s. cond (owns n s) 1 0) s slots in let hit : number (owns n s) ≡ 1 = ap number (is_owned n s is) in let few = once n in omega (arith, all, few, hit)
+
+cells_from : (levels : List Level) (lanes lane : ℕ) (key : List ℕ) (d : SlotValue) (slots : List SlotValue) → ((i n : ℕ) → i < length slots → (slice_index_or slots i d).cell ≡ Some n → n < cells_of levels)
+    → AreCells levels lanes lane key slots
+cells_from levels lanes lane key d [] all = tt
+cells_from levels lanes lane key d (s ∷ slots) all = ((λ n is. all 0 n (omega arith) is), cells_from levels lanes lane key d slots (λ i n lt is. all (suc i) n (omega (arith, lt)) is))
+
+-- A key that the shutting of a cache doesn't leave open is of no cell that it names.
+pub unnamed_after : (c : Cached) (after : List Contents) (u : List Unsaved) (calls : List StoreCall) (b : Bool) (lane : ℕ) (key : List ℕ) → AreKeys c.keys → IsCache c → ArePut c.levels (length c.shown) c.slots u calls
+    → AreCalled calls c.shown after → is_left_open lane key b calls ≡ false → IsUnnamed c.levels (length after) u lane key
+unnamed_after c after u calls b lane key own valid put called closed =
+    subst (λ n. IsUnnamed c.levels n u lane key) (sym (called_lanes calls c.shown after called))
+    (named_open c.levels (length c.shown) lane key distinct c.slots u calls b (λ k. owned_once c k valid) (cells_from c.levels (length c.shown) lane key no_slot c.slots (λ i n lt is. in_range i n is)) put closed)
+  where
+    distinct : (m n : ℕ) → m < cells_of c.levels → n < cells_of c.levels → edited_key c.levels m ≡ edited_key c.levels n → m ≡ n
+    distinct = subst (λ (l : List Level). (m n : ℕ) → m < cells_of l → n < cells_of l → edited_key l m ≡ edited_key l n → m ≡ n) valid.fitted.keyed (are_their_own c.keys own).edited
+
+    in_range : (i n : ℕ) → (slot_at c i).cell ≡ Some n → n < cells_of c.levels
+    in_range i n is = subst (λ k. n < k) valid.fitted.cells (valid.seated.in_table i n is).0

@@ -1,5 +1,5 @@
 -- A run is one function of its commands, of what its stores hold, and of which of their calls failed.
-use Rattle.std.proofs.Common.{◌≡◌, ◌∙◌, ℕ, List, [], ◌++◌, length, refl, sym, ap, subst, append_assoc}
+use Rattle.std.proofs.Common.{◌≡◌, ◌∙◌, ℕ, false, List, [], ◌++◌, length, refl, sym, ap, subst, append_assoc}
 use Rattle.std.specs.List.Sorted.{IsPermutation}
 use Rattle.arr_history.specs.declared.closed.Unsaved.{Unsaved}
 use Rattle.arr_history.specs.declared.tally.Tally.{Tally}
@@ -10,20 +10,20 @@ use Rattle.cell_store.specs.Store.{Contents}
 use Rattle.run_report.specs.declared.report.Report.{Report}
 use Rattle.run_report.specs.declared.shot.Shot.{Shot}
 use Rattle.sole_cache.specs.Shut.{AreClosed}
-use Rattle.store_calls.specs.Calls.{StoreCall, FailAlike}
+use Rattle.store_calls.specs.Calls.{StoreCall, FailAlike, is_left_open}
+use Rattle.store_calls.proofs.Leaving.{open_on}
 use Rattle.view_script.specs.Script.{NumberedCommand}
 use Rattle.team_run.specs.Desk.{Desk, desk, first_queue}
 use Rattle.team_run.specs.Run.{Completes, run_calls}
-use Rattle.team_run.proofs.Histories.{serves_lead}
 use Rattle.alike_caches.specs.Alike.{AreAlikeBut}
 use Rattle.alike_caches.specs.Laws.{GetsAreAlike, SetsAreAlike, ShutsAreAlike}
-use Rattle.alike_runs.specs.Holding.{HoldAlike}
+use Rattle.alike_runs.specs.Holding.{HoldAlike, LeftAlike}
 use Rattle.alike_runs.specs.Runs.{DesksAreAlike, AreSameShots, TellAlike, RunsAreAlike}
 use Rattle.alike_runs.specs.Commands.{ViewsAreAlike, FetchesAreAlike}
 use Rattle.alike_runs.proofs.Ascending.{ascending_same}
 use Rattle.alike_runs.proofs.Closing.{closed_same}
 use Rattle.alike_runs.proofs.Named.{named_apart}
-use Rattle.alike_runs.proofs.Naming.{alike_but}
+use Rattle.alike_runs.proofs.Open.{unnamed_after}
 use Rattle.alike_runs.proofs.Opening.{opened_alike}
 use Rattle.alike_runs.proofs.Serving.{all_alike}
 use Rattle.alike_runs.proofs.Slots.{taken_same, due_same}
@@ -41,9 +41,6 @@ module _ (gets : GetsAreAlike) (sets : SetsAreAlike) (views : ViewsAreAlike) (fe
     shut : (s.unsaved ≡ r.unsaved) × AreAlikeBut r.last.cache.levels r.unsaved after new × FailAlike m n
     shut = shuts r.last.cache s.last.cache r.unsaved s.unsaved r.closing_calls s.closing_calls m n after new done.2.cache r.puts s.puts r.closing_called s.closing_called done.3
 
-    levels_last : r.last.cache.levels ≡ first.cache.levels
-    levels_last = (serves_lead first r.last commands report.replies r.trace r.served).cache.moves.levels
-
     named : IsPermutation r.unsaved other.unsaved
     named = subst (λ (u : List Unsaved). IsPermutation u other.unsaved) shut.0 s.named
 
@@ -59,17 +56,21 @@ module _ (gets : GetsAreAlike) (sets : SetsAreAlike) (views : ViewsAreAlike) (fe
     same_shots : AreSameShots report.shots other.shots
     same_shots = subst (λ (x : List Shot). AreSameShots x other.shots) (sym r.shots) (subst (λ (y : List Shot). AreSameShots r.trace.shots y) (sym s.shots) done.1)
 
-    completed : TellAlike report other × AreAlikeBut first.cache.levels report.unsaved after new × FailAlike m n
-    completed = (
-      record { replies = done.0; shots = same_shots; tally = same_tally; unsaved = same_unsaved },
-      subst (λ (l : List Level). AreAlikeBut l report.unsaved after new) levels_last (alike_but r.last.cache.levels r.unsaved report.unsaved after new r.named shut.1),
-      shut.2,
-    )
+    -- the keys of the cells that are named are left open
+    left : LeftAlike (run_calls r) after new
+    left = record {
+      lanes = shut.1.lanes;
+      told = shut.1.told;
+      held = λ lane key there closed. shut.1.held lane key there (unnamed_after r.last.cache after r.unsaved r.closing_calls (is_left_open lane key false r.trace.stores) lane key done.2.cache.own r.valid r.puts r.closing_called
+          (sym (open_on lane key false r.trace.stores r.closing_calls) ∙ closed));
+    }
+
+    completed : TellAlike report other × LeftAlike (run_calls r) after new × FailAlike m n
+    completed = (record { replies = done.0; shots = same_shots; tally = same_tally; unsaved = same_unsaved }, left, shut.2)
 
   pub runs_alike : RunsAreAlike
   runs_alike levels keys slots commands before after old new report other m n hold run again fail =
       let held : HoldAlike run.first.shown again.first.shown =
       subst (λ (x : List Contents). HoldAlike x again.first.shown) (sym run.begins) (subst (λ (y : List Contents). HoldAlike before y) (sym again.begins) hold) in
       let opened = opened_alike levels keys slots run.first again.first run.opened again.opened run.opened.own run.opened.valid again.opened.valid held in
-      let both = completed commands (desk run.first (first_queue levels)) (desk again.first (first_queue levels)) after new report other m n (record { cache = opened; queue = refl }) run.completes again.completes fail in
-      (both.0, subst (λ (l : List Level). AreAlikeBut l report.unsaved after new) run.opened.levels_are both.1, both.2)
+      completed commands (desk run.first (first_queue levels)) (desk again.first (first_queue levels)) after new report other m n (record { cache = opened; queue = refl }) run.completes again.completes fail

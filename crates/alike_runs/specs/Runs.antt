@@ -9,8 +9,8 @@ use Rattle.store_calls.specs.Calls.{StoreCall, FailAlike}
 use Rattle.view_script.specs.Script.{NumberedCommand}
 use Rattle.team_run.specs.Desk.{Desk}
 use Rattle.team_run.specs.Run.{IsRunOf, run_calls}
-use Rattle.alike_caches.specs.Alike.{AreAlike, AreAlikeBut}
-use Rattle.alike_runs.specs.Holding.{HoldAlike}
+use Rattle.alike_caches.specs.Alike.{AreAlike}
+use Rattle.alike_runs.specs.Holding.{HoldAlike, LeftAlike}
 
 -- two moments that nothing tells apart
 pub record DesksAreAlike (a b : Desk) : Type 0 where
@@ -37,9 +37,9 @@ pub record TellAlike (report other : Report) : Type 0 where
   pub unsaved : other.unsaved ≡ report.unsaved
 
 -- What a run tells, paints and leaves is one function of its commands, of what the stores hold, and of which calls of the stores failed or found no memory;
--- but for what is held under the keys of the cells that are named unsaved.
+-- but for what is held under keys whose last put was not done.
 abbrev pub RunsAreAlike : Type 0
 RunsAreAlike = (levels : List Level) (keys : KeyNames) (slots : ℕ) (commands : List NumberedCommand) (before after old new : List Contents) (report other : Report) (m n : List StoreCall)
     → HoldAlike before old → (run : IsRunOf levels keys slots commands before after report) → (again : IsRunOf levels keys slots commands old new other)
     → FailAlike (run_calls run.completes ++ m) (run_calls again.completes ++ n)
-    → TellAlike report other × AreAlikeBut levels report.unsaved after new × FailAlike m n
+    → TellAlike report other × LeftAlike (run_calls run.completes) after new × FailAlike m n
