@@ -11,7 +11,7 @@ use alike_caches::{
 use alike_frames::pictures_are_one;
 
 /// Runs of the same commands over stores that hold the same, whose calls of the stores fail alike, tell the same, with the same
-/// pictures, and leave the same but under the edited keys of cells that are named unsaved.
+/// pictures, and leave the same but under keys whose last put was not done.
 pub fn runs_are_alike()
     ensures { RunsAreAlike }
 {

@@ -48,13 +48,16 @@ runs_and_writes levels keys slots script old mid new report answer work pyramid 
     let names : IsDistinct bytes_eq (map shot_name report.shots) =
     subst (λ (l : List (List ℕ)). IsDistinct bytes_eq l) (sym (names_of_views levels (keys_of script.head levels) slots script old mid report own.1)) distinct in
     let put = pictures_put report.shots writes.unwritten mid new writes.puts in
-    subst (λ (w : Result Done Stop). (calls : List StoreCall) × RunsOpen script slots levels old new calls w) (sym writes.done) (run_calls own.1.completes ++ put.0, record {
-      within = own.0;
-      mid = mid;
-      run = own.1;
-      writes = pictures_written levels (keys_of script.head levels) report.shots writes.unwritten mid new pyramid names writes.puts;
-      puts = put.0;
-      put = put.1;
-      calls_are = refl;
-      licensed = licensed_on old mid new report.shots writes.unwritten told writes.puts licensed;
-    })
+    subst (λ (w : Result Done Stop). (calls : List StoreCall) × RunsOpen script slots levels old new calls w) (sym writes.done) (
+      run_calls own.1.completes ++ put.0,
+      record {
+        within = own.0;
+        mid = mid;
+        run = own.1;
+        writes = pictures_written levels (keys_of script.head levels) report.shots writes.unwritten mid new pyramid names writes.puts;
+        puts = put.0;
+        put = put.1;
+        calls_are = refl;
+        licensed = licensed_on old mid new report.shots writes.unwritten told writes.puts licensed;
+      },
+    )

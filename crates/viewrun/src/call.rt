@@ -1,11 +1,14 @@
 // The call that the program makes.
 ghost use Rattle.std.specs.Prelude.{◌≤◌, map, vec_len};
 ghost use Rattle.viewrun.specs.Call.{CarriesOut};
+ghost use Rattle.viewrun.specs.OneFunction.{IsOneFunction};
 ghost use Rattle.viewrun.specs.Words.{texts};
 
 use crate::ending::end;
 use crate::work::{Worked, work};
+use alike_runs::runs_are_alike;
 use cell_store::{Sink, Source, Store};
+use n5_meta::openings_are_alike;
 use std::alloc::Global;
 
 /// How a call ended: its status, and the stores, which come back in their order at every status.
@@ -17,6 +20,8 @@ pub struct Ended<S> {
 
 /// Does on one thread what the words ask for, `info ROOT` or `solo SCRIPT --slots N`, over 1 to 16 stores, with the script's
 /// source, and writes its text to a sink.
+///
+/// It is one function of the words, of the script, of what the stores hold, and of which calls of the stores failed or found no memory.
 pub fn viewrun_alone<S: Store, R: Source, K: Sink>(
     alloc: Global,
     words: &[String],
@@ -26,8 +31,10 @@ pub fn viewrun_alone<S: Store, R: Source, K: Sink>(
 ) -> Ended<S>
     requires some_stores { 1 ≤ vec_len stores }
     requires few_stores { vec_len stores ≤ 16 }
-    ensures { CarriesOut (texts words.now) (R.stream script.old) (R.stream script.new) (map S.contents stores.items) (map S.contents result.stores.items) (K.stream out.old) (K.stream out.new) result.status }
+    ensures { (call : CarriesOut (texts words.now) (R.stream script.old) (R.stream script.new) (map S.contents stores.items) (map S.contents result.stores.items) (K.stream out.old) (K.stream out.new) result.status) × IsOneFunction call }
 {
+    runs_are_alike();
+    openings_are_alike();
     let Worked { work, stores } = work(alloc, words, script, stores);
     let status = end(alloc, out, &work);
     Ended { status, stores }
