@@ -1,5 +1,5 @@
 // The script that the lines so far say.
-ghost use Rattle.std.specs.Prelude.{◌≡◌, ◌++◌, [], ◌∷◌, true, IfOk, OnOk};
+ghost use Rattle.std.specs.Prelude.{◌≡◌, ◌++◌, [], ◌∷◌, Some, true, IfOk, OnOk};
 ghost use Rattle.std.specs.Str.{is_utf8};
 ghost use Rattle.view_script.specs.Meaning.{actors_in_last, may_stand, has_room, is_within_limits, is_new, said, added, at_last, in_range, shown_in, opened, with_line};
 ghost use Rattle.view_script.specs.Script.{pixel_count};
@@ -122,13 +122,16 @@ pub fn add(
     ensures added { OnOk result (so_far.new ≡ added so_far.old line.entry) }
     ensures kept { OnOk result (KeepsViews views.new (phases_of so_far.new)) }
 {
-    match line {
-        Line::Raw {
-            root,
-            kind,
-            dims,
-            cell,
-        } => {
+    match (line, so_far) {
+        (
+            Line::Raw {
+                root,
+                kind,
+                dims,
+                cell,
+            },
+            so_far,
+        ) => {
             let root = Text::from_str(alloc, root.name())?;
             let head = Head::Raw {
                 root,
@@ -136,34 +139,17 @@ pub fn add(
                 dims,
                 cell,
             };
-            *views = Views::new(alloc);
-            *so_far = Some(open(alloc, head));
+            start(alloc, so_far, views, head);
         }
-        Line::Open { root } => {
+        (Line::Open { root }, so_far) => {
             let root = Text::from_str(alloc, root.name())?;
-            *views = Views::new(alloc);
-            *so_far = Some(open(alloc, Head::Pyramid { root }));
+            start(alloc, so_far, views, Head::Pyramid { root });
         }
-        Line::Range(range) => {
-            if let Some(script) = so_far {
-                script.range = Some(range);
-            }
-        }
-        Line::Phase => {
-            if let Some(script) = so_far {
-                script.phases.push(Items::new(alloc))?;
-            }
-        }
-        Line::Actor => {
-            if let Some(script) = so_far {
-                add_actor(alloc, &mut script.phases)?;
-            }
-        }
-        Line::Command(command) => {
-            if let Some(script) = so_far {
-                say(script, views, command)?;
-            }
-        }
+        (Line::Range(range), Some(script)) => script.range = Some(range),
+        (Line::Phase, Some(script)) => script.phases.push(Items::new(alloc))?,
+        (Line::Actor, Some(script)) => add_actor(alloc, &mut script.phases)?,
+        (Line::Command(command), Some(script)) => say(script, views, command)?,
+        (_, None) => {}
     }
     Ok(())
 }
@@ -225,14 +211,17 @@ fn keep(
     Ok(())
 }
 
-fn open(alloc: Global, head: Head) -> Script
-    ensures { result ≡ opened head }
+/// A script begins with its head alone.
+fn start(alloc: Global, so_far: &mut Option<Script>, views: &mut Views, head: Head)
+    ensures started { so_far.new ≡ Some (opened head) }
+    ensures kept { KeepsViews views.new [] }
 {
-    Script {
+    *views = Views::new(alloc);
+    *so_far = Some(Script {
         head,
         range: None,
         phases: Items::new(alloc),
-    }
+    });
 }
 
 #[tactic(auto, using(crate::proofs::DraftLemmas::set_last, crate::proofs::DraftLemmas::change_none))]

@@ -139,11 +139,13 @@ fn limits(rt: HostRuntime) -> Result<(), Fail> {
     Ok(())
 }
 
+/// A head, a range, and two phases, the first of which has two actors.
+const LINES: &[u8] =
+    b"raw a/b uint16 5 6 7 2 3 4\nrange 1 9\nphase\nactor\n  get 0 1 2 3\nset 7 007 2 3 9\nactor\nphase";
+
 #[test]
-fn reads_what_the_lines_say(rt: HostRuntime) -> Result<(), Fail> {
-    let text =
-        b"raw a/b uint16 5 6 7 2 3 4\nrange 1 9\nphase\nactor\n  get 0 1 2 3\nset 7 007 2 3 9\nactor\nphase";
-    let script = read_script(rt.alloc(), text)?;
+fn reads_the_head_and_the_range(rt: HostRuntime) -> Result<(), Fail> {
+    let script = read_script(rt.alloc(), LINES)?;
     match &script.head {
         Head::Raw {
             root,
@@ -159,6 +161,12 @@ fn reads_what_the_lines_say(rt: HostRuntime) -> Result<(), Fail> {
         Head::Pyramid { .. } => assert!(rt; false),
     }
     assert_eq!(rt; script.range, Some([1, 9]));
+    Ok(())
+}
+
+#[test]
+fn reads_phases_actors_and_commands(rt: HostRuntime) -> Result<(), Fail> {
+    let script = read_script(rt.alloc(), LINES)?;
     assert_eq!(rt; script.phases.len(), 2);
     let first = script.phases.as_slice().first().expect(&rt, "a phase");
     assert_eq!(rt; first.len(), 2);

@@ -8,7 +8,7 @@ use std::test::Fail;
 const HEAD: &[u8] = b"raw vol uint8 6 2 2 2 2 2\nphase\nactor\n";
 
 #[test]
-fn rules_of_a_view(rt: HostRuntime) {
+fn rules_of_a_view_up_to_its_strategy(rt: HostRuntime) {
     let alloc = rt.alloc();
     for (line, kind) in [
         ("view", ScriptKind::MissingWord),
@@ -35,6 +35,15 @@ fn rules_of_a_view(rt: HostRuntime) {
         ("view a 4 4 auto budgeted", ScriptKind::MissingWord),
         ("view a 4 4 auto budgeted blocking", ScriptKind::BadNumber),
         ("view a 4 4 auto budgeted 1048577", ScriptKind::Limit),
+    ] {
+        assert_eq!(rt; refused_after(alloc, HEAD, line), Some((4, kind)), "{line}");
+    }
+}
+
+#[test]
+fn rules_of_a_matrix(rt: HostRuntime) {
+    let alloc = rt.alloc();
+    for (line, kind) in [
         (
             "view a 4 4 0 blocking 0 1 0 0 0 1 0 0 0 0",
             ScriptKind::Limit,
@@ -55,6 +64,15 @@ fn rules_of_a_view(rt: HostRuntime) {
             "view a 4 4 0 blocking 1 1 0 0 0 1 0 0 0 0 0",
             ScriptKind::ExtraWord,
         ),
+    ] {
+        assert_eq!(rt; refused_after(alloc, HEAD, line), Some((4, kind)), "{line}");
+    }
+}
+
+#[test]
+fn rules_of_a_fetch(rt: HostRuntime) {
+    let alloc = rt.alloc();
+    for (line, kind) in [
         ("fetch", ScriptKind::MissingWord),
         ("fetch -1", ScriptKind::BadNumber),
         ("fetch 262145", ScriptKind::Limit),
