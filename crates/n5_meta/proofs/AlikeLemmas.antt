@@ -8,6 +8,8 @@ use Rattle.cell_store.specs.Store.{Contents, GetGives, Gets}
 use Rattle.cell_store.specs.declared.store.Got.{Got}
 use Rattle.cell_store.specs.declared.store.Got.TheVariants as got
 use Rattle.store_calls.specs.Calls.{StoreCall, Getting, AreCalled, FailAlike, is_failed, wants_memory}
+use Rattle.store_calls.proofs.Dues.{due_answer, is_due}
+use Rattle.store_calls.proofs.Parts.{called_apart}
 use Rattle.n5_meta.specs.declared.open_err.OpenErr.{OpenErr}
 use Rattle.n5_meta.specs.declared.open_err.OpenErr.TheVariants as refused
 use Rattle.n5_meta.specs.Asks.{Asking, AsksAfter, AsksNothing, AsksOnce, AsksThen, OrMemory, WantsInGets}
@@ -17,27 +19,13 @@ use Rattle.n5_meta.specs.Laws.{HoldAlike}
 same_answer : (key : List ℕ) (held : Option (List ℕ)) (limit : ℕ) (x y : Got) (f g : List ℕ)
     → is_failed (Getting 0 key limit y g) ≡ is_failed (Getting 0 key limit x f) → wants_memory (Getting 0 key limit y g) ≡ wants_memory (Getting 0 key limit x f)
     → GetGives held limit x f → GetGives held limit y g → (x ≢ got.Found → f ≡ []) → (y ≢ got.Found → g ≡ []) → (y ≡ x) × (g ≡ f)
-same_answer key held limit got.Found got.Found f g e w h i p q = (refl, cc)
-same_answer key held limit got.Found got.Missing f g e w h i p q = absurd (cc)
-same_answer key held limit got.Found (got.TooLong len) f g e w h (bytes, is, long, more) p q =
-    let same : f ≡ bytes = cc in
-    absurd (omega (arith, h.1, ap length same, long, more))
-same_answer key held limit got.Missing got.Found f g e w h i p q = absurd (cc)
-same_answer key held limit got.Missing got.Missing f g e w h i p q = (refl, q (λ is. cc) ∙ sym (p (λ is. cc)))
-same_answer key held limit got.Missing (got.TooLong len) f g e w h (bytes, is, long, more) p q = absurd (cc)
-same_answer key held limit (got.TooLong len) got.Found f g e w (bytes, is, long, more) i p q =
-    let same : g ≡ bytes = cc in
-    absurd (omega (arith, i.1, ap length same, long, more))
-same_answer key held limit (got.TooLong len) got.Missing f g e w (bytes, is, long, more) i p q = absurd (cc)
-same_answer key held limit (got.TooLong len) (got.TooLong other) f g e w (bytes, is, long, more) (bytes', is', long', more') p q =
-    let same : bytes' ≡ bytes = cc in
-    (ap (λ n. got.TooLong n) (long' ∙ ap length same ∙ sym long), q (λ is. cc) ∙ sym (p (λ is. cc)))
-same_answer key held limit got.Failed got.Failed f g e w h i p q = (refl, q (λ is. cc) ∙ sym (p (λ is. cc)))
-same_answer key held limit got.Failed y f g e w h i p q = absurd (cc)
-same_answer key held limit got.NoMemory got.NoMemory f g e w h i p q = (refl, q (λ is. cc) ∙ sym (p (λ is. cc)))
-same_answer key held limit got.NoMemory y f g e w h i p q = absurd (cc)
-same_answer key held limit x got.Failed f g e w h i p q = absurd (cc)
-same_answer key held limit x got.NoMemory f g e w h i p q = absurd (cc)
+same_answer key held limit x y f g e w h i p q = (ap (λ (t : Got × List ℕ). t.0) pairs, ap (λ (t : Got × List ℕ). t.1) pairs)
+  where
+    pairs : ◌≡◌ {A = Got × List ℕ} (y, g) (x, f)
+    pairs = is_due held 0 key limit y g i q
+        ∙ ap (λ r. due_answer held limit r (wants_memory (Getting 0 key limit y g))) e
+        ∙ ap (λ r. due_answer held limit (is_failed (Getting 0 key limit x f)) r) w
+        ∙ sym (is_due held 0 key limit x f h p)
 
 -- stores still hold the same after gets
 still_alike : (a b c d : Contents) (key : List ℕ) (limit : ℕ) (x y : Got) (f g : List ℕ) → HoldAlike a b → Gets a c key limit x f → Gets b d key limit y g → HoldAlike c d
@@ -143,11 +131,6 @@ module _ {A : Type 0} (key : List ℕ) (decided : Got → List ℕ → Result A 
 
   pub once_decided : IsDecided (AsksOnce key decided)
   once_decided = record { clean = clean_once; alike = once_alike }
-
--- calls in a row are made one part after the other
-called_apart : (p q : List StoreCall) (a c : List Contents) → AreCalled (p ++ q) a c → (b : List Contents) × AreCalled p a b × AreCalled q b c
-called_apart [] q a c h = (a, refl, h)
-called_apart (x ∷ p) q a c (mid, first, others) = let more = called_apart p q mid c others in (more.0, (mid, first, more.1), more.2)
 
 or_none : (b c : Bool) → b ≡ false → (b || c) ≡ c
 or_none true c e = absurd (cc)

@@ -10,6 +10,7 @@ use Rattle.cell_store.specs.declared.store.Put.TheVariants as put
 use Rattle.run_report.specs.declared.report.Unwritten.{Unwritten}
 use Rattle.run_report.specs.declared.shot.Shot.{Shot}
 use Rattle.store_calls.specs.Calls.{StoreCall, Putting, AreCalled, FailAlike, is_failed, wants_memory}
+use Rattle.store_calls.proofs.Parts.{called_apart}
 use Rattle.viewrun.specs.Alike.{HoldAlikeUnder, NamedAlike, ShotsAgree, WritingsAreAlike, is_unwritten}
 use Rattle.viewrun.specs.Pictures.{ArePuts, IsPutWhere, Names, TellsPut, file_of, picture_key}
 
@@ -135,11 +136,6 @@ where_alike Key true s t a b left right k l m n u v name picture held (x, is, te
     let same = two_puts Key s t name (picture refl) a b left right m n x y u v held (subst (λ c. AreCalled c (a ∷ []) left) is one) (subst (λ c. AreCalled c (b ∷ []) right) is' other) tells tells'
     (subst (λ c. FailAlike (Putting 0 (picture_key s.name) (file_of s.picture) x ∷ m) (c ++ n)) is' (subst (λ c. FailAlike (c ++ m) (l ++ n)) is fail)) in
     record { named = same.named; calls = is' ∙ same.calls ∙ sym is; rest = same.rest; a = same.a; b = same.b; left_is = same.left_is; right_is = same.right_is; held = same.held }
-
--- calls in a row are made one part after the other
-called_apart : (p q : List StoreCall) (a c : List Contents) → AreCalled (p ++ q) a c → (b : List Contents) × AreCalled p a b × AreCalled q b c
-called_apart [] q a c h = (a, refl, h)
-called_apart (x ∷ p) q a c (mid, first, others) = let more = called_apart p q mid c others in (more.0, (mid, first, more.1), more.2)
 
 -- a key that is in neither part
 neither : (first rest : List Unwritten) (key : List ℕ) → is_unwritten (first ++ rest) key ≡ false → (is_unwritten first key ≡ false) × (is_unwritten rest key ≡ false)
