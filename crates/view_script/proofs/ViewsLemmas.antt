@@ -1,5 +1,5 @@
 -- The pixels and the names of the views of phases, as lines are added.
-use Rattle.std.proofs.Common.{◌≡◌, ◌∙◌, ◌+◌, ◌-◌, ◌<◌, ◌||◌, List, [], ◌∷◌, ◌++◌, Some, length, slice_get, refl, sym, ap, subst, arith}
+use Rattle.std.proofs.Common.{◌≡◌, ◌∙◌, ◌+◌, ◌-◌, ◌<◌, ◌||◌, ℕ, List, [], ◌∷◌, ◌++◌, Option, None, Some, length, slice_get, refl, sym, ap, subst, arith}
 use Rattle.std.specs.Prelude.{sum_by}
 use Rattle.std.specs.List.{flat_map}
 use Rattle.std.specs.Str.{bytes_eq}
@@ -9,9 +9,11 @@ use Rattle.std.proofs.lemmas.List.Concat.{flat_map-cons}
 use Rattle.std.proofs.lemmas.List.Folds.{list_any-append}
 use Rattle.std.proofs.lemmas.List.Sums.{sum_by_push}
 use Rattle.view_script.specs.declared.command.Command.{Command}
-use Rattle.view_script.specs.Meaning.{actors_in_last, at_last, is_named}
+use Rattle.view_script.specs.declared.line.Line.TheVariants as line
+use Rattle.view_script.specs.declared.script.Script.{Script}
+use Rattle.view_script.specs.Meaning.{actors_in_last, added, at_last, is_named}
 use Rattle.view_script.specs.Script.{pixels_of, pixel_count, name_of, view_names}
-use Rattle.view_script.specs.Views.{Kept, KeepsViews, KeepsOneMore}
+use Rattle.view_script.specs.Views.{Kept, KeepsViews, KeepsOneMore, phases_of}
 use Rattle.view_script.proofs.DraftLemmas.{change_none}
 use Rattle.view_script.proofs.LastLemmas.{at_last_same, sum_by-grown, sum_by-kept, flat_map-grown, flat_map-kept}
 
@@ -107,3 +109,12 @@ kept_command old new command phases is more some = record {
   names = λ name. more.names name ∙ ap (λ named. named || is_named (name_of command) name) (is.names name)
       ∙ sym (list_any-append (bytes_eq name) (view_names phases) (name_of command)) ∙ ap (λ names. is_named names name) (sym (names-command command phases some));
 }
+
+-- what is kept stays so with a phase and an actor more, where there is a script
+pub kept_in_phase : (kept : Kept) (so_far : Option Script) → KeepsViews kept (phases_of so_far) → KeepsViews kept (phases_of (added so_far line.Phase))
+kept_in_phase kept None is = is
+kept_in_phase kept (Some script) is = kept_phase kept script.phases is
+
+pub kept_in_actor : (kept : Kept) (so_far : Option Script) → KeepsViews kept (phases_of so_far) → KeepsViews kept (phases_of (added so_far line.Actor))
+kept_in_actor kept None is = is
+kept_in_actor kept (Some script) is = kept_actor kept script.phases is

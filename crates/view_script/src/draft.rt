@@ -122,16 +122,13 @@ pub fn add(
     ensures added { OnOk result (so_far.new ≡ added so_far.old line.entry) }
     ensures kept { OnOk result (KeepsViews views.new (phases_of so_far.new)) }
 {
-    match (line, so_far) {
-        (
-            Line::Raw {
-                root,
-                kind,
-                dims,
-                cell,
-            },
-            so_far,
-        ) => {
+    match line {
+        Line::Raw {
+            root,
+            kind,
+            dims,
+            cell,
+        } => {
             let root = Text::from_str(alloc, root.name())?;
             let head = Head::Raw {
                 root,
@@ -141,15 +138,18 @@ pub fn add(
             };
             start(alloc, so_far, views, head);
         }
-        (Line::Open { root }, so_far) => {
+        Line::Open { root } => {
             let root = Text::from_str(alloc, root.name())?;
             start(alloc, so_far, views, Head::Pyramid { root });
         }
-        (Line::Range(range), Some(script)) => script.range = Some(range),
-        (Line::Phase, Some(script)) => script.phases.push(Items::new(alloc))?,
-        (Line::Actor, Some(script)) => add_actor(alloc, &mut script.phases)?,
-        (Line::Command(command), Some(script)) => say(script, views, command)?,
-        (_, None) => {}
+        Line::Range(range) => set_range(so_far, range),
+        Line::Phase => add_phase(alloc, so_far)?,
+        Line::Actor => add_actor(alloc, so_far)?,
+        Line::Command(command) => {
+            if let Some(script) = so_far {
+                say(script, views, command)?;
+            }
+        }
     }
     Ok(())
 }
@@ -224,16 +224,39 @@ fn start(alloc: Global, so_far: &mut Option<Script>, views: &mut Views, head: He
     });
 }
 
-#[tactic(auto, using(crate::proofs::DraftLemmas::set_last, crate::proofs::DraftLemmas::change_none))]
-fn add_actor(alloc: Global, phases: &mut Items<Items<Items<Command>>>) -> Result<(), AllocError>
-    ensures { OnOk result (phases.new ≡ at_last (λ actors. actors ++ [] ∷ []) phases.old) }
+/// Sets the range that a script's views show.
+fn set_range(so_far: &mut Option<Script>, range: [u64; 2])
+    ensures { so_far.new ≡ added so_far.old (Line.Range range) }
 {
-    if let Some(actors) = phases.last_mut() {
-        actors.push(Items::new(alloc))?;
+    if let Some(script) = so_far {
+        script.range = Some(range);
+    }
+}
+
+/// Adds a phase without actors.
+fn add_phase(alloc: Global, so_far: &mut Option<Script>) -> Result<(), AllocError>
+    ensures { OnOk result (so_far.new ≡ added so_far.old Line.Phase) }
+{
+    if let Some(script) = so_far {
+        script.phases.push(Items::new(alloc))?;
     }
     Ok(())
 }
 
+/// Adds an actor without commands to the last phase.
+#[tactic(auto, using(crate::proofs::DraftLemmas::set_last, crate::proofs::DraftLemmas::change_none))]
+fn add_actor(alloc: Global, so_far: &mut Option<Script>) -> Result<(), AllocError>
+    ensures { OnOk result (so_far.new ≡ added so_far.old Line.Actor) }
+{
+    if let Some(script) = so_far {
+        if let Some(actors) = script.phases.last_mut() {
+            actors.push(Items::new(alloc))?;
+        }
+    }
+    Ok(())
+}
+
+/// Adds a command to the last actor of the last phase.
 #[tactic(auto, using(crate::proofs::DraftLemmas::set_last, crate::proofs::DraftLemmas::change_none))]
 fn add_command(
     phases: &mut Items<Items<Items<Command>>>,
