@@ -4,14 +4,17 @@ use Rattle.std.proofs.lemmas.Int.{unsigned_abs-mul}
 use Rattle.std.proofs.lemmas.Bool.Decides.{nat_tests}
 use Rattle.std.proofs.Math.Nat.{mul-le-mul}
 use Rattle.std.specs.Int.RustNames.{int_lt}
-use Rattle.std.specs.Option.{IsSome, is_some, IfNone}
+use Rattle.std.specs.Option.{IsSome, is_some, IfSome, IfNone}
 use Rattle.cell_grid.specs.declared.level.Level.{Level}
-use Rattle.cell_grid.specs.Pyramid.{IsPyramid}
+use Rattle.cell_grid.specs.declared.place.Place.{Place}
+use Rattle.cell_grid.specs.Pyramid.{IsPyramid, IsVoxelOf}
+use Rattle.scale_pick.specs.Pixel.{HasVoxel}
 use Rattle.whole_affine.specs.Affine.{Map, IsMap, row_of, numerator_in}
 use Rattle.whole_affine.specs.Nearest.{IsFactor, coordinate, nearest_voxel}
 use Rattle.whole_affine.proofs.Division.{div_euclid-small, abs_sum, back}
 use Rattle.whole_affine.specs.declared.nearest_walk.NearestWalk.{NearestWalk}
 use Rattle.hier_paint.specs.Nearest.{IsNearest, IsSmall, IsWalk}
+use Rattle.hier_paint.specs.Boxes.{IsPlaced}
 
 -- a number of a pixel is within bounds
 small_numerator : (row : List ℤ) (x y : ℕ) → x < 4096 → y < 4096 → unsigned_abs (slice_index_or row 0 (pos 0)) ≤ 2 ^ 31 → unsigned_abs (slice_index_or row 1 (pos 0)) ≤ 2 ^ 31 → unsigned_abs (slice_index_or row 2 (pos 0)) ≤ 2 ^ 31
@@ -84,6 +87,18 @@ pub none_without : {T : Type 0} (r : Option T) (P Q : Type 0) → (IsSome r ↔ 
 none_without {T} None P Q h f = f (λ p. let some : is_some {T = T} None ≡ true = h.1 p in cc)
 none_without (Some x) P Q h f = tt
 
-pub none_outside : {T : Type 0} (r : Option T) (P Q : Type 0) → IfNone r P → (P → Q) → IfNone r Q
-none_outside None P Q h f = f h
-none_outside (Some x) P Q h f = tt
+-- a place that was found for the coordinates of a voxel is that voxel's
+pub some_placed : (levels : List Level) (level : ℕ) (voxel : List ℤ) (at : List ℕ) (r : Option Place) → map pos at ≡ voxel → IfSome r (λ place. IsVoxelOf levels level at place.cell place.at)
+    → IfSome r (λ place. IsPlaced levels level voxel place.cell place.at)
+some_placed levels level voxel at None same h = tt
+some_placed levels level voxel at (Some place) same h = record { coordinates = at; same = same; place = h }
+
+-- the voxel of a pixel, where its nearest coordinates have a place
+pub nearest_placed : (levels : List Level) (affine : Map) (level x y : ℕ) (voxel : List ℤ) (cell at : ℕ) → IsNearest levels affine level x y voxel → IsPlaced levels level voxel cell at → HasVoxel levels affine level x y cell at
+nearest_placed levels affine level x y voxel cell at near placed = record {
+  shape = near.shape;
+  exists = near.exists;
+  coordinates = placed.coordinates;
+  nearest = placed.same ∙ near.nearest;
+  voxel = placed.place;
+}

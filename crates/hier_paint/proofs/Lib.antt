@@ -9,3 +9,4 @@ pub mod Coordinates
 pub mod Walking
 pub mod Boxing
 pub mod Holding
+pub mod Spanning

@@ -1,5 +1,5 @@
 -- The boxes of cells.
-use Rattle.std.specs.Prelude.{◌≡◌, ℕ, ◌+◌, List, length, slice_index}
+use Rattle.std.specs.Prelude.{◌≡◌, ℕ, ℤ, pos, ◌+◌, List, length, map, slice_index, slice_index_or}
 use Rattle.voxel_box.specs.Box.{IsWithin}
 use Rattle.cell_grid.specs.declared.level.Level.{Level}
 use Rattle.cell_grid.specs.Pyramid.{sides_of, IsVoxelOf}
@@ -11,9 +11,15 @@ pub record IsBoxOf (levels : List Level) (cell : ℕ) (b : CellBox) : Type 0 whe
   pub sides_are : b.sides ≡ sides_of levels cell
 
 -- A voxel lies in a box with this lowest voxel and these sides, at this position there.
-pub record IsInside (voxel low sides at : List ℕ) : Type 0 where
+pub record IsInside (voxel : List ℤ) (low sides at : List ℕ) : Type 0 where
   pub within : IsWithin at sides
   pub three : length voxel ≡ 3
-  pub x : slice_index voxel 0 ≡ slice_index low 0 + slice_index at 0
-  pub y : slice_index voxel 1 ≡ slice_index low 1 + slice_index at 1
-  pub z : slice_index voxel 2 ≡ slice_index low 2 + slice_index at 2
+  pub x : slice_index_or voxel 0 (pos 0) ≡ pos (slice_index low 0 + slice_index at 0)
+  pub y : slice_index_or voxel 1 (pos 0) ≡ pos (slice_index low 1 + slice_index at 1)
+  pub z : slice_index_or voxel 2 (pos 0) ≡ pos (slice_index low 2 + slice_index at 2)
+
+-- These integers are the coordinates at a level of the voxel at this offset of a cell.
+pub record IsPlaced (levels : List Level) (level : ℕ) (voxel : List ℤ) (cell at : ℕ) : Type 0 where
+  pub coordinates : List ℕ
+  pub same : map pos coordinates ≡ voxel
+  pub place : IsVoxelOf levels level coordinates cell at

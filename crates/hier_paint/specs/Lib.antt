@@ -2,6 +2,7 @@ pub mod Sight
 pub mod Nearest
 pub mod Visits
 pub mod Ways
+pub mod Spans
 pub mod Frames
 pub mod Boxes
 pub mod Hands

@@ -1,8 +1,9 @@
 // The box of a cell.
-ghost use Rattle.std.specs.Prelude.{◌≡◌, ℕ, ◌+◌, ◌^◌, ◌<◌, ◌≤◌, List, IfSome};
+ghost use Rattle.std.specs.Prelude.{◌≡◌, ℕ, pos, ◌+◌, ◌^◌, ◌<◌, ◌≤◌, List, IfSome, unsigned_abs};
 ghost use Rattle.voxel_box.specs.Box.{volume, number, IsWithin};
 ghost use Rattle.cell_grid.specs.declared.level.Level.{Level};
-ghost use Rattle.cell_grid.specs.Pyramid.{cells_of, IsVoxelOf};
+ghost use Rattle.cell_grid.specs.Pyramid.{cells_of};
+ghost use Rattle.hier_paint.specs.Nearest.{IsSmall};
 
 use cell_grid::{Geometry, Place};
 
@@ -10,27 +11,35 @@ use cell_grid::{Geometry, Place};
 #[derive(Clone, Copy)]
 pub struct CellBox {
     pub level: u8,
-    pub low: [u64; 3],
+    pub low: [u32; 3],
     pub sides: [u32; 3],
     ghost small: { volume sides ≤ 2 ^ 21 },
 }
 
 impl CellBox {
-    ghost use Rattle.hier_paint.specs.Boxes.{IsBoxOf, IsInside};
+    ghost use Rattle.hier_paint.specs.Boxes.{IsBoxOf, IsInside, IsPlaced};
 
     /// The box of a cell.
+    #[tactic(auto, using(crate::proofs::Boxing::voxel_small))]
     pub fn of(geometry: &Geometry, cell: u32) -> CellBox
         requires { cell < cells_of geometry.now }
         ensures { IsBoxOf geometry.now cell result }
     {
+        let _levels = geometry.levels();
         let sides = geometry.sides(cell);
         let (level, low) = geometry.pos_of(Place { cell, at: 0 });
-        CellBox { level, low, sides }
+        let [x, y, z] = low;
+        CellBox {
+            level,
+            low: [x as u32, y as u32, z as u32],
+            sides,
+        }
     }
 
     /// The offset in the cell of a voxel of a level, where that lies in the box.
-    pub fn offset(&self, level: u8, voxel: [u64; 3]) -> Option<u32>
-        ensures { (levels : List Level) (cell : ℕ) → IsBoxOf levels cell self.now → IfSome result (λ at. IsVoxelOf levels level voxel cell at) }
+    pub fn offset(&self, level: u8, voxel: [i64; 3]) -> Option<u32>
+        requires { IsSmall voxel }
+        ensures { (levels : List Level) (cell : ℕ) → IsBoxOf levels cell self.now → IfSome result (λ at. IsPlaced levels level voxel cell at) }
     {
         if level != self.level {
             return None;
@@ -40,7 +49,8 @@ impl CellBox {
     }
 
     /// The position of a voxel in the box, where it lies there.
-    fn inside(&self, voxel: [u64; 3]) -> Option<[u32; 3]>
+    fn inside(&self, voxel: [i64; 3]) -> Option<[u32; 3]>
+        requires { IsSmall voxel }
         ensures { IfSome result (λ at. IsInside voxel self.now.low self.now.sides at) }
     {
         let x = along(voxel[0], self.low[0], self.sides[0])?;
@@ -50,15 +60,17 @@ impl CellBox {
     }
 }
 
-/// How far a coordinate is from the low one, where that is below the side.
-fn along(coordinate: u64, low: u64, side: u32) -> Option<u32>
-    ensures at { IfSome result (λ at. coordinate ≡ low + at) }
+/// How far a coordinate is from the low one, where that is below the side. LLVM makes one comparison of the two.
+fn along(coordinate: i64, low: u32, side: u32) -> Option<u32>
+    requires { unsigned_abs coordinate ≤ 2 ^ 47 }
+    ensures at { IfSome result (λ at. coordinate ≡ pos (low + at)) }
     ensures below { IfSome result (λ at. at < side) }
 {
-    if coordinate < low || coordinate - low >= side as u64 {
+    let far = coordinate - low as i64;
+    if far < 0 || far >= side as i64 {
         return None;
     }
-    Some((coordinate - low) as u32)
+    Some(far as u32)
 }
 
 /// The number of a position inside a box of at most 2^21 voxels.

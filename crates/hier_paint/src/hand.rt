@@ -1,7 +1,8 @@
 // The cell that a painter holds, and those that it found not ready.
 ghost use Rattle.std.specs.Prelude.{◌≡◌, ◌<◌, true, List, None, Some, IfSome, slice_index_or};
 ghost use Rattle.cell_grid.specs.declared.level.Level.{Level};
-ghost use Rattle.cell_grid.specs.Pyramid.{IsVoxelOf};
+ghost use Rattle.hier_paint.specs.Nearest.{IsSmall};
+ghost use Rattle.hier_paint.specs.Boxes.{IsPlaced};
 ghost use Rattle.hier_paint.specs.Sight.{is_held, is_missed, opening};
 ghost use Rattle.hier_paint.specs.Hands.{IsBoxed, sight};
 
@@ -50,8 +51,9 @@ impl<H> Hand<H> {
     }
 
     /// The place of a voxel of a level, where the cell that is held has it.
-    pub fn place(&self, level: u8, voxel: [u64; 3]) -> Option<Place>
-        ensures { (levels : List Level) → IsBoxed levels self.now.held → IfSome result (λ place. IsVoxelOf levels level voxel place.cell place.at) }
+    pub fn place(&self, level: u8, voxel: [i64; 3]) -> Option<Place>
+        requires { IsSmall voxel }
+        ensures { (levels : List Level) → IsBoxed levels self.now.held → IfSome result (λ place. IsPlaced levels level voxel place.cell place.at) }
     {
         let held = self.held.as_ref()?;
         let at = held.bounds.offset(level, voxel)?;

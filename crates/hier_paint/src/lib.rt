@@ -7,6 +7,7 @@ mod hand;
 mod paint_rows;
 mod painter;
 mod pixel;
+mod span;
 mod voxel;
 
 pub use painter::paint;

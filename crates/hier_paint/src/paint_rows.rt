@@ -8,6 +8,7 @@ ghost use Rattle.hier_paint.specs.Works.{Works, Fails};
 
 use crate::hand::Hand;
 use crate::pixel::pixel;
+use crate::span::{Column, paint_span};
 use crate::voxel::row_walk;
 use cell_file::AcquireErr;
 use scale_pick::{Picture, Shades, View};
@@ -46,7 +47,7 @@ pub fn paint_rows<E: Eyes>(
     Ok(())
 }
 
-/// Paints a row of a picture, from column 0.
+/// Paints a row of a picture, from column 0: a pixel, then those after it that the cell in the hand shows, and so on.
 fn paint_row<E: Eyes>(
     eyes: &mut E,
     hand: &mut Hand<E::Held>,
@@ -73,14 +74,19 @@ fn paint_row<E: Eyes>(
     ensures filled { IsFilled picture.new }
 {
     let width = picture.width();
-    let mut walk = row_walk(eyes.geometry(), &view.affine, wanted, y, width);
-    for x in 0..width {
-        let voxel = walk.voxel();
-        match pixel(eyes, hand, view, shades, wanted, voxel, x, y) {
+    let walk = row_walk(eyes.geometry(), &view.affine, wanted, y, width);
+    let mut column = Column { x: 0, walk };
+    while column.x < width {
+        let voxel = column.walk.voxel();
+        match pixel(eyes, hand, view, shades, wanted, voxel, column.x, y) {
             Err(refusal) => return Err(refusal),
-            Ok(shot) => picture.set(x, y, shot.value, shot.mask),
+            Ok(shot) => picture.set(column.x, y, shot.value, shot.mask),
         }
-        walk = walk.next();
+        let next = Column {
+            x: column.x + 1,
+            walk: column.walk.next(),
+        };
+        column = paint_span(eyes, hand, view, shades, wanted, next, y, picture);
     }
     Ok(())
 }

@@ -27,7 +27,9 @@ pub struct Shot {
 /// The mask of a pixel that shows no level.
 const NO_LEVEL: u8 = 255;
 
-/// Paints a pixel from the first level that is ready, from the wanted one on. `voxel` is its nearest voxel there.
+/// Paints a pixel from the first level that is ready, from the wanted one on. `voxel` is its nearest voxel there. Out of
+/// line, since few pixels come here.
+#[inline(never)]
 pub fn pixel<E: Eyes>(
     eyes: &mut E,
     hand: &mut Hand<E::Held>,

@@ -1,12 +1,11 @@
 // The voxel that is nearest to a pixel's point.
 ghost use Rattle.std.specs.Prelude.{◌≡◌, ◌<◌, ◌≤◌, ◌^◌, ℕ, pos, List, length, map, Some, IfSome, IfNone, slice_get, slice_index_or, unsigned_abs};
-ghost use Rattle.cell_grid.specs.Pyramid.{cells_of, voxels_of, IsVoxelOf};
-ghost use Rattle.cell_grid.specs.declared.level.Level.{Level};
-ghost use Rattle.voxel_box.specs.Box.{IsWithin};
+ghost use Rattle.cell_grid.specs.Pyramid.{cells_of, voxels_of};
 ghost use Rattle.whole_affine.specs.Affine.{Map};
 ghost use Rattle.whole_affine.specs.Nearest.{nearest_voxel, IsFactor};
-ghost use Rattle.scale_pick.specs.Pixel.{HasVoxel, IsOutside};
+ghost use Rattle.scale_pick.specs.Pixel.{IsOutside};
 ghost use Rattle.hier_paint.specs.Nearest.{IsNearest, IsSmall, IsWalk};
+ghost use Rattle.hier_paint.specs.Boxes.{IsPlaced};
 ghost use Rattle.hier_paint.specs.Hands.{IsBoxed};
 
 use crate::hand::Hand;
@@ -75,26 +74,12 @@ fn nearest_voxel(level: &Level, affine: &Affine, x: u32, y: u32) -> [i64; 3]
     ]
 }
 
-/// The place of a pixel's nearest voxel, where that is inside the level.
+/// The place of a pixel's nearest voxel, where that is inside the level: by the box of the cell that is held, or by divisions.
 pub fn place_of<H>(geometry: &Geometry, hand: &Hand<H>, level: u8, voxel: [i64; 3]) -> Option<Place>
     requires small { IsSmall voxel }
     requires boxed { IsBoxed geometry.now hand.now.held }
-    ensures inside { (affine : Map) (x y : ℕ) → IsNearest geometry.now affine level x y voxel → IfSome result (λ place. HasVoxel geometry.now affine level x y place.cell place.at) }
+    ensures placed { IfSome result (λ place. IsPlaced geometry.now level voxel place.cell place.at) }
     ensures outside { (affine : Map) (x y : ℕ) → IsNearest geometry.now affine level x y voxel → IfNone result (IsOutside geometry.now affine level x y) }
-    ensures cell { IfSome result (λ place. place.cell < cells_of geometry.now) }
-    ensures at { IfSome result (λ place. place.at < voxels_of geometry.now place.cell) }
-{
-    match coordinates(voxel) {
-        Some(at) => place_at(geometry, hand, level, at),
-        None => None,
-    }
-}
-
-/// The place of a voxel, where it is inside the level: by the box of the cell that is held, or by divisions.
-fn place_at<H>(geometry: &Geometry, hand: &Hand<H>, level: u8, voxel: [u64; 3]) -> Option<Place>
-    requires { IsBoxed geometry.now hand.now.held }
-    ensures outside { (shape : Level) → slice_get geometry.now level ≡ Some shape → IfNone result (¬ IsWithin voxel shape.extent.dims) }
-    ensures voxel { IfSome result (λ place. IsVoxelOf geometry.now level voxel place.cell place.at) }
     ensures cell { IfSome result (λ place. place.cell < cells_of geometry.now) }
     ensures at { IfSome result (λ place. place.at < voxels_of geometry.now place.cell) }
 {
@@ -106,13 +91,17 @@ fn place_at<H>(geometry: &Geometry, hand: &Hand<H>, level: u8, voxel: [u64; 3]) 
 
 /// The place of a voxel, as the geometry has it. Out of line, since few pixels come here.
 #[inline(never)]
-fn place_by_division(geometry: &Geometry, level: u8, voxel: [u64; 3]) -> Option<Place>
-    ensures outside { (shape : Level) → slice_get geometry.now level ≡ Some shape → IfNone result (¬ IsWithin voxel shape.extent.dims) }
-    ensures voxel { IfSome result (λ place. IsVoxelOf geometry.now level voxel place.cell place.at) }
+fn place_by_division(geometry: &Geometry, level: u8, voxel: [i64; 3]) -> Option<Place>
+    requires small { IsSmall voxel }
+    ensures placed { IfSome result (λ place. IsPlaced geometry.now level voxel place.cell place.at) }
+    ensures outside { (affine : Map) (x y : ℕ) → IsNearest geometry.now affine level x y voxel → IfNone result (IsOutside geometry.now affine level x y) }
     ensures cell { IfSome result (λ place. place.cell < cells_of geometry.now) }
     ensures at { IfSome result (λ place. place.at < voxels_of geometry.now place.cell) }
 {
-    geometry.place(level, voxel)
+    match coordinates(voxel) {
+        Some(at) => geometry.place(level, at),
+        None => None,
+    }
 }
 
 /// The coordinates of a voxel, where none is negative.

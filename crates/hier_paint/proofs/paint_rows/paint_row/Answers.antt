@@ -1,17 +1,20 @@
 use Rattle.std.proofs.Common.{◌≡◌, ◌∙◌, ◌++◌, ◌+◌, ◌*◌, ◌<◌, refl, sym, subst, ap, List, arith}
 use Rattle.cell_grid.specs.declared.level.Level.{Level}
-use Rattle.scale_pick.specs.Picture.{Pixels, place, IsFilled, SameBefore}
+use Rattle.scale_pick.specs.Picture.{Pixels, place, SameBefore}
+use Rattle.scale_pick.specs.Wanted.{wanted_level}
 use Rattle.hier_paint.specs.Nearest.{IsNearest, IsWalk}
 use Rattle.hier_paint.specs.Hands.{sight}
 use Rattle.hier_paint.specs.Ways.{IsPixelWay, IsRowWay, IsPixelCut}
+use Rattle.hier_paint.specs.Spans.{IsSpanWay}
 use Rattle.hier_paint.specs.Works.{Works}
 use Rattle.hier_paint.proofs.Coordinates.{walk_nearest}
-use Rattle.hier_paint.proofs.Pictures.{filled_set, row_more, same_before_set}
+use Rattle.hier_paint.proofs.Pictures.{row_more, same_before_set}
+use Rattle.hier_paint.proofs.Spanning.{same_before_on}
 use Rattle.hier_paint.proofs.Working.{idle_work, work_on, fail_on}
 use Rattle.hier_paint.proofs.paint_rows.paint_row.Goals as goal
 
-pub loop-x-init : goal.loop-x-init
-loop-x-init g c = record {
+pub loop-column-init : goal.loop-column-init
+loop-column-init g c = record {
   works = idle_work g.E.Eyes.leads g.E.Eyes.levels g.E.Eyes.number g.E.Eyes.viewer g.met.E.Eyes.stays g.met.E.Eyes.leads_on g.met.E.Eyes.same_levels g.met.E.Eyes.same_number g.met.E.Eyes.same_viewer
       c.args.eyes.now (sight c.args.hand.now) (sight c.args.hand.now) _ refl refl;
   before = record { values = λ _ _. refl; mask = λ _ _. refl };
@@ -25,66 +28,96 @@ loop-x-init g c = record {
 
 pub pixel-requires-clause-nearest : goal.pixel-requires-clause-nearest
 pixel-requires-clause-nearest g c =
-    let was = c.loop-x.invariant in
+    let was = c.loop-column.invariant in
     let affine = c.args.view.now.affine in
-    let column : c.loop-x.x < 4096 = omega (arith, c.loop-x-test.true, c.width-width.ensures.width, c.width-width.ensures.filled.width) in
+    let x = c.loop-column.column.x in
+    let column : x < 4096 = omega (arith, c.loop-column-test.true, c.width-width.ensures.width, c.width-width.ensures.filled.width) in
     let row : c.args.y < 4096 = omega (arith, c.requires.row, c.width-width.ensures.filled.height) in
-    let at = c.voxel-voxel.ensures affine was.walk.shape.factor c.loop-x.x c.args.y c.width-width.result was.walk.at in
-    let near = walk_nearest (g.E.Eyes.levels c.args.eyes.now) affine c.args.wanted c.loop-x.x c.args.y c.width-width.result c.loop-x.walk c.voxel-voxel.result was.walk column row at in
-    subst (λ (ls : List Level). IsNearest ls affine c.args.wanted c.loop-x.x c.args.y c.voxel-voxel.result) (sym was.same) near
+    let at = c.voxel-voxel.ensures affine was.walk.shape.factor x c.args.y c.width-width.result was.walk.at in
+    let near = walk_nearest (g.E.Eyes.levels c.args.eyes.now) affine c.args.wanted x c.args.y c.width-width.result c.loop-column.column.walk c.voxel-voxel.result was.walk column row at in
+    subst (λ (ls : List Level). IsNearest ls affine c.args.wanted x c.args.y c.voxel-voxel.result) (sym was.same) near
 
-pub loop-x-preserved : goal.loop-x-preserved
-loop-x-preserved g c =
-    let was = c.loop-x.invariant in
-    let p = c.loop-x.picture in
+pub paint_span-column-requires-clause-wanted : goal.paint_span-column-requires-clause-wanted
+paint_span-column-requires-clause-wanted g c =
+    let done = c.in-Ok.ensures.painted in
+    let met = g.met.E.Eyes.same_levels c.loop-column.eyes c.pixel.new.eyes done.events done.calls done.led in
+    subst (λ (ls : List Level). c.args.wanted ≡ wanted_level ls c.args.view.now) (sym c.loop-column.invariant.same ∙ met) c.requires.wanted
+
+pub paint_span-column-requires-clause-walk : goal.paint_span-column-requires-clause-walk
+paint_span-column-requires-clause-walk g c =
+    let was = c.loop-column.invariant in
+    let x = c.loop-column.column.x in
+    let affine = c.args.view.now.affine in
+    let done = c.in-Ok.ensures.painted in
+    let met = g.met.E.Eyes.same_levels c.loop-column.eyes c.pixel.new.eyes done.events done.calls done.led in
+    let width : c.width-width.result ≡ c.set.new.self.width = c.width-width.ensures.width ∙ sym was.width ∙ sym (ap (λ (q : Pixels). q.width) c.set.ensures.set) in
+    subst (λ (ls : List Level). IsWalk ls affine c.args.wanted (x + 1) c.args.y c.set.new.self.width c.next.result) (sym was.same ∙ met)
+    (subst (λ w. IsWalk (g.E.Eyes.levels c.args.eyes.now) affine c.args.wanted (x + 1) c.args.y w c.next.result) width (record {
+      shape = was.walk.shape;
+      exists = was.walk.exists;
+      at = c.next.ensures affine was.walk.shape.factor x c.args.y c.width-width.result was.walk.at;
+      map_is = was.walk.map_is;
+    }))
+
+pub loop-column-preserved : goal.loop-column-preserved
+loop-column-preserved g c =
+    let was = c.loop-column.invariant in
+    let p = c.loop-column.picture in
     let set = c.set.ensures.set in
     let levels = g.E.Eyes.levels c.args.eyes.now in
-    let affine = c.args.view.now.affine in
-    let at = place p.width c.loop-x.x c.args.y in
-    let column : c.loop-x.x < p.width = omega (arith, c.loop-x-test.true, c.width-width.ensures.width, was.width) in
-    let row : c.args.y < p.height = omega (arith, c.requires.row, was.height) in
+    let view = c.args.view.now in
+    let x = c.loop-column.column.x in
+    let y = c.args.y in
+    let at = place p.width x y in
+    let end = place c.args.picture.now.width 0 y in
+    let column : x < p.width = omega (arith, c.loop-column-test.true, c.width-width.ensures.width, was.width) in
+    let row : y < p.height = omega (arith, c.requires.row, was.height) in
     let done = c.in-Ok.ensures.painted in
+    let span = c.paint_span-column.ensures in
+    let met : g.E.Eyes.levels c.pixel.new.eyes ≡ levels = sym (g.met.E.Eyes.same_levels c.loop-column.eyes c.pixel.new.eyes done.events done.calls done.led) ∙ was.same in
+    let width : c.set.new.self.width ≡ c.args.picture.now.width = ap (λ (q : Pixels). q.width) set ∙ was.width in
+    let one = work_on g.E.Eyes.leads g.E.Eyes.levels g.E.Eyes.number g.E.Eyes.viewer g.met.E.Eyes.stays g.met.E.Eyes.leads_on g.met.E.Eyes.same_levels g.met.E.Eyes.same_number g.met.E.Eyes.same_viewer
+    c.args.eyes.now c.loop-column.eyes c.pixel.new.eyes (sight c.args.hand.now) (sight c.loop-column.hand) (sight c.pixel.new.hand) _ _ (IsRowWay levels view c.set.new.self y (x + 1)) was.works done
+    (λ v w before here. subst (λ (q : Pixels). IsRowWay levels view q y (x + 1) (v ++ w)) (sym set)
+    (row_more levels view p x y c.in-Ok.shot.value c.in-Ok.shot.mask v w was.filled column row before
+    (subst (λ (ls : List Level). IsPixelWay ls view x y c.in-Ok.shot.value c.in-Ok.shot.mask w) was.same here))) in
     record {
       works = work_on g.E.Eyes.leads g.E.Eyes.levels g.E.Eyes.number g.E.Eyes.viewer g.met.E.Eyes.stays g.met.E.Eyes.leads_on g.met.E.Eyes.same_levels g.met.E.Eyes.same_number g.met.E.Eyes.same_viewer
-          c.args.eyes.now c.loop-x.eyes c.pixel.new.eyes (sight c.args.hand.now) (sight c.loop-x.hand) (sight c.pixel.new.hand) _ _ _ was.works done
-          (λ v w before here. subst (λ (q : Pixels). IsRowWay levels c.args.view.now q c.args.y (c.loop-x.x + 1) (v ++ w)) (sym set)
-          (row_more levels c.args.view.now p c.loop-x.x c.args.y c.in-Ok.shot.value c.in-Ok.shot.mask v w was.filled column row before
-          (subst (λ (ls : List Level). IsPixelWay ls c.args.view.now c.loop-x.x c.args.y c.in-Ok.shot.value c.in-Ok.shot.mask w) was.same here)));
-      before = subst (λ (q : Pixels). SameBefore c.args.picture.now q (place c.args.picture.now.width 0 c.args.y)) (sym set)
-          (same_before_set c.args.picture.now p (place c.args.picture.now.width 0 c.args.y) at c.in-Ok.shot.value c.in-Ok.shot.mask (omega (arith, ap (λ w. c.args.y * w) was.width)) was.before);
-      walk = record {
-        shape = was.walk.shape;
-        exists = was.walk.exists;
-        at = c.next-walk.ensures affine was.walk.shape.factor c.loop-x.x c.args.y c.width-width.result was.walk.at;
-        map_is = was.walk.map_is;
-      };
-      fits = c.in-Ok.ensures.fits;
-      same = sym (g.met.E.Eyes.same_levels c.loop-x.eyes c.pixel.new.eyes done.events done.calls done.led) ∙ was.same;
-      width = ap (λ (q : Pixels). q.width) set ∙ was.width;
-      height = ap (λ (q : Pixels). q.height) set ∙ was.height;
-      filled = subst IsFilled (sym set) (filled_set p at c.in-Ok.shot.value c.in-Ok.shot.mask was.filled);
+          c.args.eyes.now c.pixel.new.eyes c.paint_span-column.new.eyes (sight c.args.hand.now) (sight c.pixel.new.hand) (sight c.pixel.new.hand) _ _ _ one span.painted
+          (λ v w before on. subst (λ (ls : List Level). IsSpanWay ls view y c.set.new.self (x + 1) c.paint_span-column.new.picture c.paint_span-column.result.x w) met on v before);
+      before = same_before_on c.args.picture.now c.set.new.self c.paint_span-column.new.picture end
+          (subst (λ (q : Pixels). SameBefore c.args.picture.now q end) (sym set) (same_before_set c.args.picture.now p end at c.in-Ok.shot.value c.in-Ok.shot.mask (omega (arith, ap (λ w. y * w) was.width)) was.before))
+          (subst (λ w. SameBefore c.set.new.self c.paint_span-column.new.picture (place w 0 y)) width span.before);
+      walk = subst (λ (ls : List Level). IsWalk ls view.affine c.args.wanted c.paint_span-column.result.x y c.width-width.result c.paint_span-column.result.walk) met
+          (subst (λ w. IsWalk (g.E.Eyes.levels c.pixel.new.eyes) view.affine c.args.wanted c.paint_span-column.result.x y w c.paint_span-column.result.walk) (width ∙ sym c.width-width.ensures.width) span.walk);
+      fits = span.fits;
+      same = sym (g.met.E.Eyes.same_levels c.pixel.new.eyes c.paint_span-column.new.eyes span.painted.events span.painted.calls span.painted.led) ∙ met;
+      width = span.width ∙ width;
+      height = span.height ∙ ap (λ (q : Pixels). q.height) set ∙ was.height;
+      filled = span.filled;
     }
 
 pub returns-in-Err-clause-refused : goal.returns-in-Err-clause-refused
 returns-in-Err-clause-refused g c =
-    let was = c.loop-x.invariant in
-    let p = c.loop-x.picture in
-    let column : c.loop-x.x < p.width = omega (arith, c.loop-x-test.true, c.width-width.ensures.width, was.width) in
+    let was = c.loop-column.invariant in
+    let p = c.loop-column.picture in
+    let x = c.loop-column.column.x in
+    let column : x < p.width = omega (arith, c.loop-column-test.true, c.width-width.ensures.width, was.width) in
     fail_on g.E.Eyes.leads g.E.Eyes.levels g.E.Eyes.number g.E.Eyes.viewer g.met.E.Eyes.stays g.met.E.Eyes.leads_on g.met.E.Eyes.same_levels g.met.E.Eyes.same_number g.met.E.Eyes.same_viewer g.E.Eyes.caused
-    c.args.eyes.now c.loop-x.eyes c.pixel.new.eyes (sight c.args.hand.now) (sight c.loop-x.hand) c.in-Err.refusal _ _ _ was.works c.in-Err.ensures.refused
+    c.args.eyes.now c.loop-column.eyes c.pixel.new.eyes (sight c.args.hand.now) (sight c.loop-column.hand) c.in-Err.refusal _ _ _ was.works c.in-Err.ensures.refused
     (λ v w level cell before cut. record {
-      x = c.loop-x.x;
+      x = x;
       column = column;
       before = v;
       here = w;
       painted = before;
-      cut = subst (λ (ls : List Level). IsPixelCut ls c.args.view.now c.loop-x.x c.args.y w level cell) was.same cut;
+      cut = subst (λ (ls : List Level). IsPixelCut ls c.args.view.now x c.args.y w level cell) was.same cut;
       visits_are = refl;
     })
 
 pub returns-clause-painted : goal.returns-clause-painted
 returns-clause-painted g c =
-    let was = c.loop-x.invariant in
-    let p = c.loop-x.picture in
-    let end : c.loop-x.x ≡ p.width = omega (arith, c.loop-x-test.false, c.width-width.ensures.width, was.width) in
-    subst (λ n. Works g.E.Eyes.leads g.E.Eyes.levels g.E.Eyes.number g.E.Eyes.viewer c.args.eyes.now (sight c.args.hand.now) c.loop-x.eyes (sight c.loop-x.hand) (IsRowWay (g.E.Eyes.levels c.args.eyes.now) c.args.view.now p c.args.y n)) end was.works
+    let was = c.loop-column.invariant in
+    let p = c.loop-column.picture in
+    let end : c.loop-column.column.x ≡ p.width = omega (arith, c.loop-column-test.false, was.walk.at.steps, c.width-width.ensures.width, was.width) in
+    subst (λ n. Works g.E.Eyes.leads g.E.Eyes.levels g.E.Eyes.number g.E.Eyes.viewer c.args.eyes.now (sight c.args.hand.now) c.loop-column.eyes (sight c.loop-column.hand) (IsRowWay (g.E.Eyes.levels c.args.eyes.now) c.args.view.now p c.args.y n)) end was.works

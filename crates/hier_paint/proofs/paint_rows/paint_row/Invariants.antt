@@ -1,4 +1,4 @@
-use Rattle.std.proofs.Common.{◌≡◌}
+use Rattle.std.proofs.Common.{◌≡◌, ◌-◌}
 use Rattle.scale_pick.specs.Picture.{place, IsFilled, SameBefore}
 use Rattle.hier_paint.specs.Nearest.{IsWalk}
 use Rattle.hier_paint.specs.Hands.{Fits, sight}
@@ -6,15 +6,18 @@ use Rattle.hier_paint.specs.Ways.{IsRowWay}
 use Rattle.hier_paint.specs.Works.{Works}
 use Rattle.hier_paint.proofs.paint_rows.paint_row.Given as goal
 
-abbrev pub invariant-loop-x : goal.invariant-loop-x
-invariant-loop-x g l =
+abbrev pub invariant-loop-column : goal.invariant-loop-column
+invariant-loop-column g l =
     record {
-      works : Works g.E.Eyes.leads g.E.Eyes.levels g.E.Eyes.number g.E.Eyes.viewer l.fn.eyes (sight l.fn.hand) l.eyes (sight l.hand) (IsRowWay (g.E.Eyes.levels l.fn.eyes) l.view l.picture l.y l.x);
+      works : Works g.E.Eyes.leads g.E.Eyes.levels g.E.Eyes.number g.E.Eyes.viewer l.fn.eyes (sight l.fn.hand) l.eyes (sight l.hand) (IsRowWay (g.E.Eyes.levels l.fn.eyes) l.view l.picture l.y l.column.x);
       before : SameBefore l.fn.picture l.picture (place l.fn.picture.width 0 l.y);
-      walk : IsWalk (g.E.Eyes.levels l.fn.eyes) l.view.affine l.wanted l.x l.y l.width l.walk;
+      walk : IsWalk (g.E.Eyes.levels l.fn.eyes) l.view.affine l.wanted l.column.x l.y l.width l.column.walk;
       fits : Fits g.E.Eyes.levels g.E.Eyes.held g.E.Eyes.holds g.E.Eyes.cell_of l.eyes l.hand.held;
       same : g.E.Eyes.levels l.eyes ≡ g.E.Eyes.levels l.fn.eyes;
       width : l.picture.width ≡ l.fn.picture.width;
       height : l.picture.height ≡ l.fn.picture.height;
       filled : IsFilled l.picture;
     }
+
+abbrev pub decreases-loop-column : goal.decreases-loop-column
+decreases-loop-column g l = l.width - l.column.x

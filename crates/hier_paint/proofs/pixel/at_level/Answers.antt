@@ -5,6 +5,7 @@ use Rattle.hier_paint.specs.Nearest.{IsNearest}
 use Rattle.hier_paint.specs.Hands.{sight}
 use Rattle.hier_paint.specs.Ways.{IsLevelWay}
 use Rattle.hier_paint.specs.Finding.{IsAt, IsPlaceWay, IsLevelCut}
+use Rattle.hier_paint.proofs.Coordinates.{nearest_placed}
 use Rattle.hier_paint.proofs.Walking.{level_way, level_cut}
 use Rattle.hier_paint.proofs.Working.{idle_work, ok_map, err_map}
 use Rattle.hier_paint.proofs.pixel.at_level.Goals as goal
@@ -22,7 +23,7 @@ returns-in-Some-clause-shown g c =
     let affine = c.args.view.now.affine in
     let place = c.in-Some.place in
     let near = subst (λ (ls : List Level). IsNearest ls affine c.args.level c.args.x c.args.y c.args.voxel) (sym c.geometry.ensures) c.requires.nearest in
-    let inside = subst (λ (ls : List Level). HasVoxel ls affine c.args.level c.args.x c.args.y place.cell place.at) c.geometry.ensures (c.in-Some.ensures.inside affine c.args.x c.args.y near) in
+    let inside = subst (λ (ls : List Level). HasVoxel ls affine c.args.level c.args.x c.args.y place.cell place.at) c.geometry.ensures (nearest_placed c.geometry.result.now affine c.args.level c.args.x c.args.y c.args.voxel place.cell place.at near c.in-Some.ensures.placed) in
     ok_map g.E.Eyes.leads g.E.Eyes.levels g.E.Eyes.number g.E.Eyes.viewer g.met.E.Eyes.stays g.met.E.Eyes.leads_on g.met.E.Eyes.same_levels g.met.E.Eyes.same_number g.met.E.Eyes.same_viewer
     c.args.eyes.now c.at_place.new.eyes (sight c.args.hand.now) (sight c.at_place.new.hand)
     (IsPlaceWay c.args.shades.low c.args.shades.high c.args.level place.cell place.at) (IsLevelWay (g.E.Eyes.levels c.args.eyes.now) c.args.view.now c.args.x c.args.y c.args.level) c.at_place.result
@@ -33,7 +34,7 @@ returns-in-Some-clause-refused g c =
     let affine = c.args.view.now.affine in
     let place = c.in-Some.place in
     let near = subst (λ (ls : List Level). IsNearest ls affine c.args.level c.args.x c.args.y c.args.voxel) (sym c.geometry.ensures) c.requires.nearest in
-    let inside = subst (λ (ls : List Level). HasVoxel ls affine c.args.level c.args.x c.args.y place.cell place.at) c.geometry.ensures (c.in-Some.ensures.inside affine c.args.x c.args.y near) in
+    let inside = subst (λ (ls : List Level). HasVoxel ls affine c.args.level c.args.x c.args.y place.cell place.at) c.geometry.ensures (nearest_placed c.geometry.result.now affine c.args.level c.args.x c.args.y c.args.voxel place.cell place.at near c.in-Some.ensures.placed) in
     err_map g.E.Eyes.leads g.E.Eyes.levels g.E.Eyes.number g.E.Eyes.viewer g.met.E.Eyes.stays g.met.E.Eyes.leads_on g.met.E.Eyes.same_levels g.met.E.Eyes.same_number g.met.E.Eyes.same_viewer g.E.Eyes.caused
     c.args.eyes.now c.at_place.new.eyes (sight c.args.hand.now) (IsAt c.args.level place.cell) (IsLevelCut (g.E.Eyes.levels c.args.eyes.now) c.args.view.now c.args.x c.args.y c.args.level) c.at_place.result
     (level_cut (g.E.Eyes.levels c.args.eyes.now) c.args.view.now c.args.x c.args.y c.args.level place.cell place.at inside) c.at_place.ensures.refused

@@ -1,0 +1,58 @@
+-- Spans of a row, from the cell that is held.
+use Rattle.std.proofs.Common.{◌≡◌, ◌∙◌, ℕ, ◌+◌, ◌<◌, List, [], ◌∷◌, ◌++◌, Some, true, refl, sym, ap, subst, append_assoc, arith}
+use Rattle.std.proofs.lemmas.Bool.Decides.{nat_tests}
+use Rattle.std.proofs.lemmas.List.{append-nil}
+use Rattle.cell_grid.specs.declared.level.Level.{Level}
+use Rattle.arr_history.specs.declared.event.Event.{Event}
+use Rattle.arr_history.specs.declared.event.Event.TheVariants as event
+use Rattle.scale_pick.specs.declared.view.View.{View}
+use Rattle.scale_pick.specs.Picture.{Pixels, place, IsFilled, SameBefore}
+use Rattle.scale_pick.specs.Pixel.{HasVoxel}
+use Rattle.scale_pick.specs.Shade.{shown}
+use Rattle.scale_pick.specs.Wanted.{wanted_level}
+use Rattle.volatile_cell.specs.Asked.{Asked}
+use Rattle.hier_paint.specs.Sight.{Sight, is_cell, is_held}
+use Rattle.hier_paint.specs.declared.hand.Hand.{Hand}
+use Rattle.hier_paint.specs.declared.hand.InHand.{InHand}
+use Rattle.hier_paint.specs.Hands.{cell_in, sight}
+use Rattle.hier_paint.specs.Visits.{Visit}
+use Rattle.hier_paint.specs.Ways.{IsPixelWay, IsRowWay}
+use Rattle.hier_paint.specs.Spans.{IsSpanWay}
+use Rattle.hier_paint.specs.Works.{Works}
+use Rattle.hier_paint.proofs.Pictures.{with_pixel, row_more}
+use Rattle.hier_paint.proofs.Walking.{none_skipped, level_way, shown_way}
+use Rattle.hier_paint.proofs.Working.{work_map, held_found, read_work}
+
+-- the cell in a hand is held
+pub in_hand : {H : Type 0} (hand : Hand H) (h : InHand H) → hand.held ≡ Some h → is_held (sight hand) h.cell ≡ true
+in_hand hand h e = ap (λ o. is_cell (cell_in o) h.cell) e ∙ grind (arith, nat_tests)
+
+-- what stood at two changes of a picture
+pub same_before_on : (p q r : Pixels) (end : ℕ) → SameBefore p q end → SameBefore q r end → SameBefore p r end
+same_before_on p q r end a b = record { values = λ i lt. b.values i lt ∙ a.values i lt; mask = λ i lt. b.mask i lt ∙ a.mask i lt }
+
+module _ (levels : List Level) (view : View) where
+  -- a span without a pixel, and one with one pixel more
+  pub span_none : (p : Pixels) (x y : ℕ) → IsSpanWay levels view y p x p x []
+  span_none p x y = λ before row. subst (λ (v : List Visit). IsRowWay levels view p y x v) (sym (append-nil before)) row
+
+  pub span_more : (p q : Pixels) (x z y value mask : ℕ) (v w : List Visit) → IsFilled q → z < q.width → y < q.height → IsSpanWay levels view y p x q z v → IsPixelWay levels view z y value mask w
+      → IsSpanWay levels view y p x (with_pixel q (place q.width z y) value mask) (z + 1) (v ++ w)
+  span_more p q x z y value mask v w f column row span pixel = λ before done.
+      subst (λ (all : List Visit). IsRowWay levels view (with_pixel q (place q.width z y) value mask) y (z + 1) all) (append_assoc before v w)
+      (row_more levels view q z y value mask (before ++ v) w f column row (span before done) pixel)
+
+module _ {E : Type 0} (leads : E → List Event → List Asked → E → Type 0) (levels : E → List Level) (number viewer : E → ℕ)
+    (stays : (e : E) → leads e [] [] e)
+    (leads_on : (a b c : E) (p q : List Event) (u v : List Asked) → leads a p u b → leads b q v c → leads a (p ++ q) (u ++ v) c)
+    (same_levels : (a b : E) (p : List Event) (u : List Asked) → leads a p u b → levels a ≡ levels b)
+    (same_number : (a b : E) (p : List Event) (u : List Asked) → leads a p u b → number a ≡ number b)
+    (same_viewer : (a b : E) (p : List Event) (u : List Asked) → leads a p u b → viewer a ≡ viewer b) where
+  -- a pixel that shows a voxel of the cell that is held, at the wanted level
+  pub held_pixel : (e e' : E) (s : Sight) (ls : List Level) (view : View) (x y wanted cell at n low high value : ℕ) → is_held s cell ≡ true → wanted ≡ wanted_level ls view → low ≡ view.low → high ≡ view.high
+      → HasVoxel ls view.affine wanted x y cell at → leads e (event.Read (number e) cell at n ∷ []) [] e' → value ≡ shown n low high → Works leads levels number viewer e s e' s (IsPixelWay ls view x y value wanted)
+  held_pixel e e' s ls view x y wanted cell at n low high value held is is_low is_high voxel led shows =
+      let found = held_found leads levels number viewer stays leads_on same_levels same_number same_viewer e s s wanted cell refl held in
+      let read = read_work leads levels number viewer stays leads_on same_levels same_number same_viewer e e e' s s wanted cell at n low high value found led shows in
+      work_map leads levels number viewer stays leads_on same_levels same_number same_viewer e e' s s _ _ read
+      (λ v here. shown_way ls ls view x y wanted wanted value [] v is refl (omega arith) (none_skipped ls view x y wanted) (level_way ls view x y wanted cell at low high is_low is_high voxel (Some value) v here))

@@ -1,0 +1,65 @@
+// The pixels of a row that the cell in the hand shows.
+ghost use Rattle.std.specs.Prelude.{◌≡◌, ◌<◌, ◌≤◌, ℕ};
+ghost use Rattle.scale_pick.specs.Picture.{place, IsFilled, SameBefore};
+ghost use Rattle.scale_pick.specs.Wanted.{wanted_level};
+ghost use Rattle.hier_paint.specs.Nearest.{IsWalk};
+ghost use Rattle.hier_paint.specs.Hands.{Fits, sight};
+ghost use Rattle.hier_paint.specs.Spans.{IsSpanWay};
+ghost use Rattle.hier_paint.specs.Works.{Works};
+
+use crate::hand::Hand;
+use scale_pick::{Picture, Shades, View};
+use volatile_cell::Eyes;
+use whole_affine::NearestWalk;
+
+/// A column of a row, and the walk of the row there.
+#[derive(Clone, Copy)]
+pub struct Column {
+    pub x: u32,
+    pub walk: NearestWalk,
+}
+
+/// Paints a row from a column on, as long as the nearest voxel at the wanted level lies in the cell that is held. It answers the
+/// column where that ends.
+pub fn paint_span<E: Eyes>(
+    eyes: &mut E,
+    hand: &Hand<E::Held>,
+    view: &View,
+    shades: Shades,
+    wanted: u8,
+    from: Column,
+    y: u32,
+    picture: &mut Picture,
+) -> Column
+    requires wanted { wanted ≡ wanted_level (E.levels eyes.old) view.now }
+    requires row { y < picture.old.height }
+    requires walk { IsWalk (E.levels eyes.old) view.now.affine wanted from.x y picture.old.width from.walk }
+    requires low { shades.low ≡ view.now.low }
+    requires high { shades.high ≡ view.now.high }
+    requires fits { Fits E.levels E.held E.holds E.cell_of eyes.old hand.now.held }
+    ensures painted { Works E.leads E.levels E.number E.viewer eyes.old (sight hand.now) eyes.new (sight hand.now) (IsSpanWay (E.levels eyes.old) view.now y picture.old from.x picture.new result.x) }
+    ensures before { SameBefore picture.old picture.new (place picture.old.width 0 y) }
+    ensures walk { IsWalk (E.levels eyes.old) view.now.affine wanted result.x y picture.old.width result.walk }
+    ensures onward { from.x ≤ result.x }
+    ensures fits { Fits E.levels E.held E.holds E.cell_of eyes.new hand.now.held }
+    ensures width { picture.new.width ≡ picture.old.width }
+    ensures height { picture.new.height ≡ picture.old.height }
+    ensures filled { IsFilled picture.new }
+{
+    let width = picture.width();
+    let Some(held) = &hand.held else {
+        return from;
+    };
+    let bounds = held.bounds;
+    let first = y as usize * width as usize;
+    let mut walk = from.walk;
+    for x in from.x..width {
+        let Some(at) = bounds.offset(wanted, walk.voxel()) else {
+            return Column { x, walk };
+        };
+        let number = eyes.read(&held.handle, at);
+        picture.set_at(first + x as usize, shades.shown(number), wanted);
+        walk = walk.next();
+    }
+    Column { x: width, walk }
+}
