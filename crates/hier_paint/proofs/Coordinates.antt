@@ -6,9 +6,10 @@ use Rattle.std.proofs.Math.Nat.{mul-le-mul}
 use Rattle.std.specs.Int.RustNames.{int_lt}
 use Rattle.std.specs.Option.{IsSome, is_some, IfSome, IfNone}
 use Rattle.cell_grid.specs.declared.level.Level.{Level}
+use Rattle.voxel_box.specs.Box.{IsWithin}
 use Rattle.cell_grid.specs.declared.place.Place.{Place}
 use Rattle.cell_grid.specs.Pyramid.{IsPyramid, IsVoxelOf}
-use Rattle.scale_pick.specs.Pixel.{HasVoxel}
+use Rattle.scale_pick.specs.Pixel.{HasVoxel, IsOutside}
 use Rattle.whole_affine.specs.Affine.{Map, IsMap, row_of, numerator_in}
 use Rattle.whole_affine.specs.Nearest.{IsFactor, coordinate, nearest_voxel}
 use Rattle.whole_affine.proofs.Division.{div_euclid-small, abs_sum, back}
@@ -102,3 +103,15 @@ nearest_placed levels affine level x y voxel cell at near placed = record {
   nearest = placed.same ∙ near.nearest;
   voxel = placed.place;
 }
+
+-- a pixel's nearest coordinates lie outside the level
+pub nearest_outside : (levels : List Level) (affine : Map) (level x y : ℕ) (voxel : List ℤ) (shape : Level) → IsNearest levels affine level x y voxel → slice_get levels level ≡ Some shape
+    → ((at : List ℕ) → map pos at ≡ voxel → ¬ IsWithin at shape.extent.dims) → IsOutside levels affine level x y
+nearest_outside levels affine level x y voxel shape near exists beside =
+    let both : Some near.shape ≡ Some shape = sym near.exists ∙ exists in
+    let same : near.shape ≡ shape = cc in
+    record {
+      shape = near.shape;
+      exists = near.exists;
+      outside = λ at e w. beside at (e ∙ sym near.nearest) (subst (λ (s : Level). IsWithin at s.extent.dims) same w);
+    }

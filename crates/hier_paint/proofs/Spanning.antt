@@ -1,5 +1,5 @@
 -- Spans of a row, from the cell that is held.
-use Rattle.std.proofs.Common.{◌≡◌, ◌∙◌, ℕ, ◌+◌, ◌<◌, List, [], ◌∷◌, ◌++◌, Some, true, refl, sym, ap, subst, append_assoc, arith}
+use Rattle.std.proofs.Common.{◌≡◌, ◌∙◌, inl, ℕ, ◌+◌, ◌<◌, List, [], ◌∷◌, ◌++◌, Some, true, refl, sym, ap, subst, append_assoc, arith}
 use Rattle.std.proofs.lemmas.Bool.Decides.{nat_tests}
 use Rattle.std.proofs.lemmas.List.{append-nil}
 use Rattle.cell_grid.specs.declared.level.Level.{Level}
@@ -7,7 +7,7 @@ use Rattle.arr_history.specs.declared.event.Event.{Event}
 use Rattle.arr_history.specs.declared.event.Event.TheVariants as event
 use Rattle.scale_pick.specs.declared.view.View.{View}
 use Rattle.scale_pick.specs.Picture.{Pixels, place, IsFilled, SameBefore}
-use Rattle.scale_pick.specs.Pixel.{HasVoxel}
+use Rattle.scale_pick.specs.Pixel.{HasVoxel, IsOutside}
 use Rattle.scale_pick.specs.Shade.{shown}
 use Rattle.scale_pick.specs.Wanted.{wanted_level}
 use Rattle.volatile_cell.specs.Asked.{Asked}
@@ -41,6 +41,14 @@ module _ (levels : List Level) (view : View) where
   span_more p q x z y value mask v w f column row span pixel = λ before done.
       subst (λ (all : List Visit). IsRowWay levels view (with_pixel q (place q.width z y) value mask) y (z + 1) all) (append_assoc before v w)
       (row_more levels view q z y value mask (before ++ v) w f column row (span before done) pixel)
+
+  -- a row, then a span of it, and one without a visit
+  pub span_on : (p q r : Pixels) (x x' x'' y : ℕ) (v w : List Visit) → IsSpanWay levels view y p x q x' w → IsSpanWay levels view y q x' r x'' [] → IsRowWay levels view p y x v → IsRowWay levels view r y x'' (v ++ w)
+  span_on p q r x x' x'' y v w a b row = subst (λ (all : List Visit). IsRowWay levels view r y x'' all) (append-nil (v ++ w)) (b (v ++ w) (a v row))
+
+  -- a pixel outside the wanted level
+  pub outside_pixel : (x y wanted : ℕ) → wanted ≡ wanted_level levels view → IsOutside levels view.affine wanted x y → IsPixelWay levels view x y 0 wanted []
+  outside_pixel x y wanted is outside = shown_way levels levels view x y wanted wanted 0 [] [] is refl (omega arith) (none_skipped levels view x y wanted) (inl (outside, refl, refl))
 
 module _ {E : Type 0} (leads : E → List Event → List Asked → E → Type 0) (levels : E → List Level) (number viewer : E → ℕ)
     (stays : (e : E) → leads e [] [] e)

@@ -8,7 +8,7 @@ ghost use Rattle.hier_paint.specs.Works.{Works, Fails};
 
 use crate::hand::Hand;
 use crate::pixel::pixel;
-use crate::span::{Column, paint_span};
+use crate::span::{Column, paint_outside, paint_span};
 use crate::voxel::row_walk;
 use cell_file::AcquireErr;
 use scale_pick::{Picture, Shades, View};
@@ -47,7 +47,8 @@ pub fn paint_rows<E: Eyes>(
     Ok(())
 }
 
-/// Paints a row of a picture, from column 0: a pixel, then those after it that the cell in the hand shows, and so on.
+/// Paints a row of a picture, from column 0: a pixel, then those after it that the cell in the hand shows, then those outside the
+/// level, and so on.
 fn paint_row<E: Eyes>(
     eyes: &mut E,
     hand: &mut Hand<E::Held>,
@@ -86,7 +87,8 @@ fn paint_row<E: Eyes>(
             x: column.x + 1,
             walk: column.walk.next(),
         };
-        column = paint_span(eyes, hand, view, shades, wanted, next, y, picture);
+        let after = paint_span(eyes, hand, view, shades, wanted, next, y, picture);
+        column = paint_outside(eyes.geometry(), view, wanted, after, y, picture);
     }
     Ok(())
 }

@@ -1,5 +1,5 @@
-// The pixels of a row that the cell in the hand shows.
-ghost use Rattle.std.specs.Prelude.{◌≡◌, ◌<◌, ◌≤◌, ℕ};
+// The pixels of a row that are painted together: those that the cell in the hand shows, and those outside the level.
+ghost use Rattle.std.specs.Prelude.{◌≡◌, ◌<◌, ◌≤◌, ℕ, length, []};
 ghost use Rattle.scale_pick.specs.Picture.{place, IsFilled, SameBefore};
 ghost use Rattle.scale_pick.specs.Wanted.{wanted_level};
 ghost use Rattle.hier_paint.specs.Nearest.{IsWalk};
@@ -8,6 +8,8 @@ ghost use Rattle.hier_paint.specs.Spans.{IsSpanWay};
 ghost use Rattle.hier_paint.specs.Works.{Works};
 
 use crate::hand::Hand;
+use crate::voxel::is_outside;
+use cell_grid::Geometry;
 use scale_pick::{Picture, Shades, View};
 use volatile_cell::Eyes;
 use whole_affine::NearestWalk;
@@ -59,6 +61,42 @@ pub fn paint_span<E: Eyes>(
         };
         let number = eyes.read(&held.handle, at);
         picture.set_at(first + x as usize, shades.shown(number), wanted);
+        walk = walk.next();
+    }
+    Column { x: width, walk }
+}
+
+/// Paints a row from a column on, as long as the nearest voxel at the wanted level lies outside that level. It answers the column
+/// where that ends.
+pub fn paint_outside(
+    geometry: &Geometry,
+    view: &View,
+    wanted: u8,
+    from: Column,
+    y: u32,
+    picture: &mut Picture,
+) -> Column
+    requires wanted { wanted ≡ wanted_level geometry.now view.now }
+    requires exists { wanted < length geometry.now }
+    requires row { y < picture.old.height }
+    requires walk { IsWalk geometry.now view.now.affine wanted from.x y picture.old.width from.walk }
+    ensures painted { IsSpanWay geometry.now view.now y picture.old from.x picture.new result.x [] }
+    ensures before { SameBefore picture.old picture.new (place picture.old.width 0 y) }
+    ensures walk { IsWalk geometry.now view.now.affine wanted result.x y picture.old.width result.walk }
+    ensures onward { from.x ≤ result.x }
+    ensures width { picture.new.width ≡ picture.old.width }
+    ensures height { picture.new.height ≡ picture.old.height }
+    ensures filled { IsFilled picture.new }
+{
+    let width = picture.width();
+    let dims = geometry.level(wanted).extent.dims();
+    let first = y as usize * width as usize;
+    let mut walk = from.walk;
+    for x in from.x..width {
+        if !is_outside(walk.voxel(), dims) {
+            return Column { x, walk };
+        }
+        picture.set_at(first + x as usize, 0, wanted);
         walk = walk.next();
     }
     Column { x: width, walk }

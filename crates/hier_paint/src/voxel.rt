@@ -1,5 +1,6 @@
 // The voxel that is nearest to a pixel's point.
-ghost use Rattle.std.specs.Prelude.{◌≡◌, ◌<◌, ◌≤◌, ◌^◌, ℕ, pos, List, length, map, Some, IfSome, IfNone, slice_get, slice_index_or, unsigned_abs};
+ghost use Rattle.std.specs.Prelude.{◌≡◌, ◌<◌, ◌≤◌, ◌^◌, ℕ, pos, List, length, map, Some, IfSome, IfNone, slice_get, slice_index_or, unsigned_abs, true};
+ghost use Rattle.voxel_box.specs.Box.{IsWithin};
 ghost use Rattle.cell_grid.specs.Pyramid.{cells_of, voxels_of};
 ghost use Rattle.whole_affine.specs.Affine.{Map};
 ghost use Rattle.whole_affine.specs.Nearest.{nearest_voxel, IsFactor};
@@ -101,6 +102,17 @@ fn place_by_division(geometry: &Geometry, level: u8, voxel: [i64; 3]) -> Option<
     match coordinates(voxel) {
         Some(at) => geometry.place(level, at),
         None => None,
+    }
+}
+
+/// Whether a voxel lies outside a level of these sides.
+pub fn is_outside(voxel: [i64; 3], dims: [u64; 3]) -> bool
+    requires { IsSmall voxel }
+    ensures { result ≡ true → (at : List ℕ) → map pos at ≡ voxel → ¬ IsWithin at dims }
+{
+    match coordinates(voxel) {
+        None => true,
+        Some(at) => at[0] >= dims[0] || at[1] >= dims[1] || at[2] >= dims[2],
     }
 }
 
