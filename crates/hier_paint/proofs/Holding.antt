@@ -3,15 +3,10 @@ use Rattle.std.proofs.Common.{◌≡◌, ◌∙◌, ℕ, List, Option, None, Som
 use Rattle.cell_grid.specs.declared.level.Level.{Level}
 use Rattle.hier_paint.specs.declared.hand.InHand.{InHand}
 use Rattle.hier_paint.specs.Boxes.{IsBoxOf}
-use Rattle.hier_paint.specs.Hands.{IsBoxed, Fits}
+use Rattle.hier_paint.specs.Hands.{Fits}
 
 module _ {E H : Type 0} (levels : E → List Level) (held : E → ℕ) (holds : E → H → Type 0) (cell_of : H → ℕ) where
-  -- what fits has its box
-  pub fits_boxed : (e : E) (hand : Option (InHand H)) → Fits levels held holds cell_of e hand → IsBoxed (levels e) hand
-  fits_boxed e None f = tt
-  fits_boxed e (Some h) f = f.3
-
-  -- and fits still, where the same handles are out
+  -- what fits still does, where the same handles are out
   pub fits_still : (e e' : E) (hand : Option (InHand H)) → levels e ≡ levels e' → held e' ≡ held e → ((h : H) → holds e h → holds e' h) → Fits levels held holds cell_of e hand → Fits levels held holds cell_of e' hand
   fits_still e e' None same count kept f = count ∙ f
   fits_still e e' (Some h) same count kept f = (count ∙ f.0, kept h.handle f.1, f.2, subst (λ (ls : List Level). IsBoxOf ls h.cell h.bounds) same f.3)
