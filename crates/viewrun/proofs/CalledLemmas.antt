@@ -1,6 +1,5 @@
 -- The calls of the stores of a call lead from the stores before it to those after it.
-use Rattle.std.proofs.Common.{◌≡◌, ◌∙◌, ℕ, zero, suc, List, [], ◌∷◌, ◌++◌, Option, None, Some, Result, Ok, Err, refl, sym, ap, subst}
-use Rattle.std.specs.Prelude.{slice_get, slice_set}
+use Rattle.std.proofs.Common.{◌≡◌, ℕ, zero, suc, List, [], ◌∷◌, Option, None, Some, Result, Ok, Err, refl, sym, ap, subst}
 use Rattle.cell_file.specs.Keys.{KeyNames}
 use Rattle.cell_grid.specs.declared.level.Level.{Level}
 use Rattle.cell_store.specs.Store.{Contents}
@@ -19,7 +18,7 @@ use Rattle.viewrun.specs.declared.words.Request.TheVariants.{Info, Solo}
 use Rattle.viewrun.specs.declared.work.Done.{Done}
 use Rattle.viewrun.specs.declared.work.Done.TheVariants.{Levels, Ran}
 use Rattle.viewrun.specs.Stores.{FirstChanges}
-use Rattle.viewrun.specs.Work.{Informs, RunsAndWrites, RunsOpen, FollowsOpening, OpensAndRuns, FollowsReading, ReadsAndRuns, Works}
+use Rattle.viewrun.specs.Work.{RunsAndWrites, RunsOpen, FollowsOpening, FollowsReading, Works}
 
 nothing_called : (old new : List Contents) (calls : List StoreCall) → calls ≡ [] → new ≡ old → AreCalled calls old new
 nothing_called old new calls none same = subst (λ (k : List StoreCall). AreCalled k old new) (sym none) same

@@ -1,12 +1,11 @@
 -- Calls of the same words, over the same script and stores that hold the same, whose calls of the stores fail alike, end alike.
-use Rattle.std.proofs.Common.{◌≡◌, ◌∙◌, ◌⊎◌, inl, inr, ℕ, zero, suc, ◌<◌, ◌≤◌, ◌||◌, Bool, true, false, List, [], ◌∷◌, ◌++◌, length, map, Option, None, Some, Result, Ok, Err, IsTrue, refl, sym, ap, subst, arith}
+use Rattle.std.proofs.Common.{◌≡◌, ◌∙◌, inl, inr, ℕ, zero, suc, ◌<◌, ◌||◌, Bool, true, false, List, [], ◌∷◌, ◌++◌, length, None, Some, Result, Ok, Err, IsTrue, refl, sym, ap, subst, arith}
 use Rattle.std.specs.Prelude.{take, codes, if◌then◌else◌}
-use Rattle.std.specs.List.{list_any, flat_map}
+use Rattle.std.specs.List.{list_any}
 use Rattle.std.proofs.lemmas.List.{append-nil}
 use Rattle.std.proofs.lemmas.List.Concat.{flat_map-cons}
 use Rattle.arr_history.specs.declared.closed.Unsaved.{Unsaved}
 use Rattle.arr_history.specs.declared.tally.Tally.{Tally}
-use Rattle.cell_file.specs.Keys.{KeyNames}
 use Rattle.cell_grid.specs.declared.level.Level.{Level}
 use Rattle.cell_store.specs.Store.{Contents}
 use Rattle.cell_store.specs.Stream.{Stream}
@@ -37,9 +36,8 @@ use Rattle.view_script.specs.declared.script_error.ScriptErr.TheVariants.{At}
 use Rattle.view_script.specs.declared.script_error.ScriptKind.{ScriptKind}
 use Rattle.view_script.specs.Meaning.{script_in}
 use Rattle.alike_runs.specs.Holding.{HoldAlike, LeftAlike}
-use Rattle.alike_runs.specs.Runs.{IsSameShot, AreSameShots, TellAlike, RunsAreAlike}
+use Rattle.alike_runs.specs.Runs.{AreSameShots, TellAlike, RunsAreAlike}
 use Rattle.viewrun.specs.Alike.{ShotsAgree, NamedAlike, HoldAlikeUnder}
-use Rattle.viewrun.specs.declared.words.Request.{Request}
 use Rattle.viewrun.specs.declared.words.Request.TheVariants.{Info, Solo}
 use Rattle.viewrun.specs.declared.work.Done.{Done}
 use Rattle.viewrun.specs.declared.work.Done.TheVariants.{Levels, Ran}
@@ -49,7 +47,7 @@ use Rattle.viewrun.specs.Pictures.{PutsWith}
 use Rattle.viewrun.specs.Script.{limit, AreFirst, ReadsScript}
 use Rattle.viewrun.specs.Stores.{FirstChanges}
 use Rattle.viewrun.specs.Volume.{OpensPyramid, OpensVolume, AsksVolume, AnswersAlways, keys_of, raw_levels}
-use Rattle.viewrun.specs.Work.{Informs, RunsAndWrites, RunsOpen, FollowsOpening, OpensAndRuns, FollowsReading, ReadsAndRuns, Works, told_of}
+use Rattle.viewrun.specs.Work.{RunsAndWrites, RunsOpen, FollowsOpening, OpensAndRuns, FollowsReading, told_of}
 use Rattle.viewrun.proofs.AlikeLemmas.{writings_alike}
 use Rattle.viewrun.proofs.OpenLemmas.{pyramid_settles, others_settle, same_left, tells_after}
 

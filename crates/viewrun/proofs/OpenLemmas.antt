@@ -1,14 +1,11 @@
 -- What the calls of opening and of pictures leave open, and what a store holds after the same calls.
-use Rattle.std.proofs.Common.{◌≡◌, ◌∙◌, ℕ, zero, suc, ◌+◌, ◌==◌, ◌&&◌, Bool, true, false, cond, List, [], ◌∷◌, ◌++◌, Option, None, Some, Result, Ok, Err, inl, inr, IsTrue, refl, sym, ap, subst, arith}
-use Rattle.std.specs.Prelude.{slice_get, slice_set}
+use Rattle.std.proofs.Common.{◌≡◌, ◌∙◌, ℕ, zero, suc, ◌+◌, ◌==◌, ◌&&◌, Bool, true, false, cond, List, [], ◌∷◌, None, Some, Result, Ok, Err, inl, inr, IsTrue, refl, sym, ap, subst, arith}
 use Rattle.std.specs.Str.{bytes_eq}
 use Rattle.std.proofs.lemmas.Bool.Decides.{nat_tests}
-use Rattle.cell_grid.specs.declared.level.Level.{Level}
-use Rattle.cell_store.specs.Store.{Contents, Gets, Puts, put_in}
+use Rattle.cell_store.specs.Store.{Contents, Gets, Puts}
 use Rattle.cell_store.specs.declared.store.Put.{Put}
 use Rattle.cell_store.specs.declared.store.Put.TheVariants as put
 use Rattle.n5_meta.specs.Asks.{Asking, AsksNothing, AsksOnce, AsksAfter, AsksThen, AsksLevels, AsksPyramid, attr_by, setup_by, pyramid_of}
-use Rattle.n5_meta.specs.declared.described.Described.{Described}
 use Rattle.n5_meta.specs.declared.open_err.OpenErr.{OpenErr}
 use Rattle.n5_meta.specs.Pyramid.{level_key, setup_key}
 use Rattle.cell_store.specs.declared.store.Got.{Got}
