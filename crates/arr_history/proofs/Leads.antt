@@ -1,5 +1,5 @@
 -- Events that lead on from where others led.
-use Rattle.std.proofs.Common.{◌≡◌, ◌∙◌, ℕ, ◌+◌, ◌-◌, ◌<◌, ◌≤◌, ◌==◌, Bool, true, false, cond, IsTrue, List, [], ◌∷◌, ◌++◌, refl, sym, ap, subst}
+use Rattle.std.proofs.Common.{◌≡◌, ◌∙◌, ◌↔◌, ℕ, ◌+◌, ◌-◌, ◌<◌, ◌≤◌, ◌==◌, Bool, true, false, cond, IsTrue, List, [], ◌∷◌, ◌++◌, refl, sym, ap, subst}
 use Rattle.std.proofs.lemmas.Bool.{eqb-true}
 use Rattle.arr_history.specs.declared.event.Event.{Event}
 use Rattle.arr_history.specs.declared.event.Event.TheVariants.{Pin, Miss, Unpin, Mark, Read, Write, Claim, Drop, Live, Close, Gone, Back}
@@ -104,6 +104,13 @@ after-append s (e ∷ p) q = after-append (next s e) p q
 pub legal-append : (b : Shape) (s : State) (p q : List Event) → AreLegal b s p → AreLegal b (after s p) q → AreLegal b s (p ++ q)
 legal-append b s [] q l m = m
 legal-append b s (e ∷ p) q l m = (l.0, legal-append b (next s e) p q l.1 m)
+
+pub legal-parts : (b : Shape) (s : State) (p q : List Event) → AreLegal b s (p ++ q) ↔ (AreLegal b s p × AreLegal b (after s p) q)
+legal-parts b s p q = (split s p, λ h. legal-append b s p q h.0 h.1)
+  where
+    split : (s : State) (p : List Event) → AreLegal b s (p ++ q) → AreLegal b s p × AreLegal b (after s p) q
+    split s [] l = (tt, l)
+    split s (e ∷ p) l = let rest = split (next s e) p l.1 in ((l.0, rest.0), rest.1)
 
 pub same_refl : (b : Shape) (s : State) → IsSame b s s
 same_refl b s = record { cells = λ _. refl; pins = λ _ _. refl; arrays = λ _ _ _ _ _. refl }

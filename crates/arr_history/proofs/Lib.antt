@@ -5,3 +5,6 @@ pub mod Leads
 pub mod Claims
 pub mod Counts
 pub mod Arrays
+pub mod AtWork
+pub mod Pinned
+pub mod Opened

@@ -10,9 +10,10 @@ use Rattle.arr_history.specs.declared.cell_state.CellState.TheVariants as cell
 use Rattle.arr_history.specs.State.{State, with_at, with_cell, with_pins}
 use Rattle.arr_history.specs.Shape.{Shape}
 use Rattle.arr_history.specs.Next.{marked, leaving, returned, next}
-use Rattle.arr_history.specs.Legal.{IsLive, LiveIn, HasSlot, IsLeaving, IsLegal}
+use Rattle.arr_history.specs.Legal.{IsLive, LiveIn, HasSlot, IsLeaving, IsLegal, has_mark}
+use Rattle.pass_roster.specs.History.{StartsWith}
 use Rattle.arr_history.specs.History.{after, AreLegal}
-use Rattle.arr_history.specs.Laws.{IsSound, writes, unpins, marks, puts, IsUnmarked}
+use Rattle.arr_history.specs.Laws.{IsSound, writes, unpins, marks, puts}
 
 -- at a place of a changed function there is the new value, or the old one at another place
 pub at_cases : {X : Type 0} (P : X → Type 0) (f : ℕ → X) (i : ℕ) (x : X) (j : ℕ) → (i ≡ j → P x) → ((i ≡ j → ⊥) → P (f j)) → P (with_at f i x j)
@@ -48,19 +49,19 @@ live_marked (cell.Leaving k slot m) h = h
 live_marked cell.Absent h = h
 live_marked (cell.Loading k) h = h
 
-slot_marked : (x : CellState) (slot : ℕ) → HasSlot (marked x) slot → HasSlot x slot
+pub slot_marked : (x : CellState) (slot : ℕ) → HasSlot (marked x) slot → HasSlot x slot
 slot_marked (cell.Live s m) slot h = h
 slot_marked (cell.Leaving k s m) slot h = h
 slot_marked cell.Absent slot h = h
 slot_marked (cell.Loading k) slot h = h
 
-slot_leaving : (k : ℕ) (x : CellState) (slot : ℕ) → HasSlot (leaving k x) slot → HasSlot x slot
+pub slot_leaving : (k : ℕ) (x : CellState) (slot : ℕ) → HasSlot (leaving k x) slot → HasSlot x slot
 slot_leaving k (cell.Live s m) slot h = h
 slot_leaving k (cell.Leaving j s m) slot h = h
 slot_leaving k cell.Absent slot h = h
 slot_leaving k (cell.Loading j) slot h = h
 
-slot_returned : (x : CellState) (slot : ℕ) → HasSlot (returned x) slot → HasSlot x slot
+pub slot_returned : (x : CellState) (slot : ℕ) → HasSlot (returned x) slot → HasSlot x slot
 slot_returned (cell.Live s m) slot h = h
 slot_returned (cell.Leaving k s m) slot h = h
 slot_returned cell.Absent slot h = h
@@ -180,54 +181,62 @@ pinned_next s (Unpin j d) k c h pinned = fewer_pins s j d k c (s.pins j d - 1) h
 pinned_next s (Live j d t) k c h pinned = more_pins s j d k c (s.pins j d + 1) pinned (omega arith)
 pinned_next s _ k c h pinned = pinned
 
-pub stays : (b : Shape) (s : State) (events : List Event) (k c slot : ℕ) → AreLegal b s events → 0 < s.pins k c → LiveIn (s.cells c) slot → list_any (unpins k c) events ≡ false → LiveIn ((after s events).cells c) slot
-stays b s [] k c slot legal pinned h none = h
-stays b s (e ∷ events) k c slot legal pinned h none =
+-- a live cell stays in its slot while somebody has a pin on it
+pub stays : (b : Shape) (s : State) (events : List Event) (c slot : ℕ) → AreLegal b s events → LiveIn (s.cells c) slot
+    → ((front : List Event) → StartsWith events front → (k : ℕ) × (0 < (after s front).pins k c)) → LiveIn ((after s events).cells c) slot
+stays b s [] c slot legal live pinned = live
+stays b s (e ∷ events) c slot legal live pinned =
+    let now = pinned [] (e ∷ events, refl) in
+    stays b (next s e) events c slot legal.1 (stays_next b s e now.0 c slot legal.0 now.1 live) (λ front begins. pinned (e ∷ front) (begins.0, ap (λ (l : List Event). e ∷ l) begins.1))
+
+pub still_pinned : (s : State) (events : List Event) (k c : ℕ) → 0 < s.pins k c → list_any (unpins k c) events ≡ false → 0 < (after s events).pins k c
+still_pinned s [] k c pinned none = pinned
+still_pinned s (e ∷ events) k c pinned none =
     let both = split_none (unpins k c e) (list_any (unpins k c) events) none in
-    stays b (next s e) events k c slot legal.1 (pinned_next s e k c both.0 pinned) (stays_next b s e k c slot legal.0 pinned h) both.1
+    still_pinned (next s e) events k c (pinned_next s e k c both.0 pinned) both.1
 
 -- a cell without a mark keeps none while nobody marks it
-unmarked_leaving : (k : ℕ) (x : CellState) → IsUnmarked x → IsUnmarked (leaving k x)
+unmarked_leaving : (k : ℕ) (x : CellState) → has_mark x ≡ false → has_mark (leaving k x) ≡ false
 unmarked_leaving k (cell.Live s m) h = h
 unmarked_leaving k (cell.Leaving j s m) h = h
 unmarked_leaving k cell.Absent h = h
 unmarked_leaving k (cell.Loading j) h = h
 
-unmarked_returned : (x : CellState) → IsUnmarked x → IsUnmarked (returned x)
+unmarked_returned : (x : CellState) → has_mark x ≡ false → has_mark (returned x) ≡ false
 unmarked_returned (cell.Live s m) h = h
 unmarked_returned (cell.Leaving k s m) h = h
 unmarked_returned cell.Absent h = h
 unmarked_returned (cell.Loading k) h = h
 
 -- a change of another cell, or to a state without a mark, brings no mark
-unmarked_at : (s : State) (d c : ℕ) (state : CellState) → (d ≡ c → IsUnmarked state) → IsUnmarked (s.cells c) → IsUnmarked (with_at s.cells d state c)
-unmarked_at s d c state here h = at_cases IsUnmarked s.cells d state c here (λ _. h)
+unmarked_at : (s : State) (d c : ℕ) (state : CellState) → (d ≡ c → has_mark state ≡ false) → has_mark (s.cells c) ≡ false → has_mark (with_at s.cells d state c) ≡ false
+unmarked_at s d c state here h = at_cases (λ x. has_mark x ≡ false) s.cells d state c here (λ _. h)
 
 differ : (d c : ℕ) → (d == c) ≡ false → d ≡ c → ⊥
 differ d c h e = grind (arith, nat_tests)
 
-unmarked_next : (s : State) (e : Event) (c : ℕ) → marks c e ≡ false → IsUnmarked (s.cells c) → IsUnmarked ((next s e).cells c)
+unmarked_next : (s : State) (e : Event) (c : ℕ) → marks c e ≡ false → has_mark (s.cells c) ≡ false → has_mark ((next s e).cells c) ≡ false
 unmarked_next s (Mark k d) c none h = unmarked_at s d c (marked (s.cells d)) (λ e. absurd (differ d c none e)) h
-unmarked_next s (Claim k d) c none h = unmarked_at s d c (cell.Loading k) (λ _. tt) h
-unmarked_next s (Drop k d) c none h = unmarked_at s d c cell.Absent (λ _. tt) h
+unmarked_next s (Claim k d) c none h = unmarked_at s d c (cell.Loading k) (λ _. refl) h
+unmarked_next s (Drop k d) c none h = unmarked_at s d c cell.Absent (λ _. refl) h
 unmarked_next s (Live k d slot) c none h = unmarked_at s d c (cell.Live slot false) (λ _. refl) h
-unmarked_next s (Close k d) c none h = unmarked_at s d c (leaving k (s.cells d)) (λ e. unmarked_leaving k (s.cells d) (subst (λ n. IsUnmarked (s.cells n)) (sym e) h)) h
-unmarked_next s (Gone k d saved) c none h = unmarked_at s d c cell.Absent (λ _. tt) h
-unmarked_next s (Back k d) c none h = unmarked_at s d c (returned (s.cells d)) (λ e. unmarked_returned (s.cells d) (subst (λ n. IsUnmarked (s.cells n)) (sym e) h)) h
+unmarked_next s (Close k d) c none h = unmarked_at s d c (leaving k (s.cells d)) (λ e. unmarked_leaving k (s.cells d) (subst (λ n. has_mark (s.cells n) ≡ false) (sym e) h)) h
+unmarked_next s (Gone k d saved) c none h = unmarked_at s d c cell.Absent (λ _. refl) h
+unmarked_next s (Back k d) c none h = unmarked_at s d c (returned (s.cells d)) (λ e. unmarked_returned (s.cells d) (subst (λ n. has_mark (s.cells n) ≡ false) (sym e) h)) h
 unmarked_next s _ c none h = h
 
 -- what is leaving with a mark has one
-unmarked_unsaved : (k : ℕ) (saved : Bool) (x : CellState) → IsLeaving k saved x → IsUnmarked x → saved ≡ false
+unmarked_unsaved : (k : ℕ) (saved : Bool) (x : CellState) → IsLeaving k saved x → has_mark x ≡ false → saved ≡ false
 unmarked_unsaved k saved (cell.Leaving j slot m) l h = sym l.1 ∙ h
 unmarked_unsaved k saved (cell.Live slot m) l h = absurd l
 unmarked_unsaved k saved cell.Absent l h = absurd l
 unmarked_unsaved k saved (cell.Loading j) l h = absurd l
 
-unput_next : (b : Shape) (s : State) (e : Event) (c : ℕ) → IsLegal b s e → IsUnmarked (s.cells c) → puts c e ≡ false
+unput_next : (b : Shape) (s : State) (e : Event) (c : ℕ) → IsLegal b s e → has_mark (s.cells c) ≡ false → puts c e ≡ false
 unput_next b s (Gone k d saved) c legal h = choose (d == c) refl
   where
     choose : (q : Bool) → (d == c) ≡ q → (saved && q) ≡ false
-    choose true e = ap (λ m. m && true) (unmarked_unsaved k saved (s.cells d) legal.1 (subst (λ n. IsUnmarked (s.cells n)) (sym (eqb-true d c e)) h))
+    choose true e = ap (λ m. m && true) (unmarked_unsaved k saved (s.cells d) legal.1 (subst (λ n. has_mark (s.cells n) ≡ false) (sym (eqb-true d c e)) h))
     choose false e = and_false saved
       where
         and_false : (m : Bool) → (m && false) ≡ false
@@ -236,11 +245,15 @@ unput_next b s (Gone k d saved) c legal h = choose (d == c) refl
 unput_next b s (Back k d) c legal h = choose (d == c) refl
   where
     choose : (q : Bool) → (d == c) ≡ q → q ≡ false
-    choose true e = unmarked_unsaved k true (s.cells d) legal.1 (subst (λ n. IsUnmarked (s.cells n)) (sym (eqb-true d c e)) h)
+    choose true e = unmarked_unsaved k true (s.cells d) legal.1 (subst (λ n. has_mark (s.cells n) ≡ false) (sym (eqb-true d c e)) h)
     choose false e = refl
 unput_next b s _ c legal h = refl
 
-pub unput : (b : Shape) (s : State) (events : List Event) (c : ℕ) → AreLegal b s events → IsUnmarked (s.cells c) → list_any (marks c) events ≡ false → list_any (puts c) events ≡ false
+pub unmarked : (s : State) (events : List Event) (c : ℕ) → has_mark (s.cells c) ≡ false → list_any (marks c) events ≡ false → has_mark ((after s events).cells c) ≡ false
+unmarked s [] c h none = h
+unmarked s (e ∷ events) c h none = let both = split_none (marks c e) (list_any (marks c) events) none in unmarked (next s e) events c (unmarked_next s e c both.0 h) both.1
+
+pub unput : (b : Shape) (s : State) (events : List Event) (c : ℕ) → AreLegal b s events → has_mark (s.cells c) ≡ false → list_any (marks c) events ≡ false → list_any (puts c) events ≡ false
 unput b s [] c legal h none = refl
 unput b s (e ∷ events) c legal h none =
     let both = split_none (marks c e) (list_any (marks c) events) none in

@@ -8,7 +8,7 @@ use Rattle.arr_history.specs.State.{with_at, with_cell, with_pins, with_voxel}
 use Rattle.arr_history.specs.Shape.{IsSameShape}
 use Rattle.arr_history.specs.Legal.{IsLive, HasSlot}
 use Rattle.arr_history.specs.Tracked.{Tracked, untracked, tracked_at, in_state, with_pins_of, lived, with_value}
-use Rattle.arr_history.specs.Checked.{Checked, shape_of, state_of, IsChecked, Becomes}
+use Rattle.arr_history.specs.Checked.{Checked, checked_shape, checked_state, IsChecked, Becomes}
 use Rattle.arr_history.proofs.Sound.{at_cases}
 use Rattle.arr_history.proofs.Lists.{set_cases, read_set}
 
@@ -51,7 +51,7 @@ keeps_slot c n t owners valid may same = keeps c n t owners owners valid may ref
     (λ slot h. valid.owner n slot ((same slot).0 h)) (λ m slot _ h. (valid.owner m slot h).1) (λ slot h. (same slot).1 (valid.owned n slot h)) (λ m slot _ h. valid.owned m slot h)
 
 -- what is fixed of a checker
-pub same_shape : (c : Checked) (n : ℕ) (t : Tracked) → n < length c.cells → t.void ≡ (tracked_at c.cells n).void → IsSameShape (shape_of c) (shape_of (with_cells c (slice_set c.cells n t)))
+pub same_shape : (c : Checked) (n : ℕ) (t : Tracked) → n < length c.cells → t.void ≡ (tracked_at c.cells n).void → IsSameShape (checked_shape c) (checked_shape (with_cells c (slice_set c.cells n t)))
 same_shape c n t lt void = record {
   cells = refl;
   slots = refl;
@@ -61,7 +61,7 @@ same_shape c n t lt void = record {
   void = λ m _ _. set_cases (λ (x : Tracked). (tracked_at c.cells m).void ≡ x.void) c.cells n t m untracked lt (λ e. ap (λ k. (tracked_at c.cells k).void) (sym e) ∙ sym void) (λ _. refl);
 }
 
-pub becomes_state : (c : Checked) (n : ℕ) (state : CellState) → n < length c.cells → Becomes c (with_cell (state_of c) n state) (with_cells c (slice_set c.cells n (in_state (tracked_at c.cells n) state)))
+pub becomes_state : (c : Checked) (n : ℕ) (state : CellState) → n < length c.cells → Becomes c (with_cell (checked_state c) n state) (with_cells c (slice_set c.cells n (in_state (tracked_at c.cells n) state)))
 becomes_state c n state lt = record {
   reached = record {
     cells = λ m. read_set (λ (x : Tracked). x.state) c.cells n (in_state (tracked_at c.cells n) state) m untracked lt;
@@ -74,9 +74,9 @@ becomes_state c n state lt = record {
 
 -- the pins of a pass on one cell are changed
 pins_set : (c : Checked) (n k : ℕ) (t : Tracked) (pins j m : ℕ) → n < length c.cells → k < length (tracked_at c.cells n).pins → t.pins ≡ slice_set (tracked_at c.cells n).pins k pins
-    → with_at (state_of c).pins k (with_at ((state_of c).pins k) n pins) j m ≡ slice_index (tracked_at (slice_set c.cells n t) m).pins j
-pins_set c n k t pins j m lt inside is = at_cases (λ (f : ℕ → ℕ). f m ≡ slice_index (tracked_at (slice_set c.cells n t) m).pins j) (state_of c).pins k (with_at ((state_of c).pins k) n pins) j
-    (λ e. at_cases (λ x. x ≡ slice_index (tracked_at (slice_set c.cells n t) m).pins j) ((state_of c).pins k) n pins m
+    → with_at (checked_state c).pins k (with_at ((checked_state c).pins k) n pins) j m ≡ slice_index (tracked_at (slice_set c.cells n t) m).pins j
+pins_set c n k t pins j m lt inside is = at_cases (λ (f : ℕ → ℕ). f m ≡ slice_index (tracked_at (slice_set c.cells n t) m).pins j) (checked_state c).pins k (with_at ((checked_state c).pins k) n pins) j
+    (λ e. at_cases (λ x. x ≡ slice_index (tracked_at (slice_set c.cells n t) m).pins j) ((checked_state c).pins k) n pins m
     (λ nm. set_cases (λ (x : Tracked). pins ≡ slice_index x.pins j) c.cells n t m untracked lt
     (λ _. subst (λ l. pins ≡ slice_index l j) (sym is) (set_cases (λ x. pins ≡ x) (tracked_at c.cells n).pins k pins j 0 inside (λ _. refl) (λ ne. absurd (ne e)))) (λ ne. absurd (ne nm)))
     (λ ne. set_cases (λ (x : Tracked). slice_index (tracked_at c.cells m).pins k ≡ slice_index x.pins j) c.cells n t m untracked lt (λ nm. absurd (ne nm)) (λ _. ap (slice_index (tracked_at c.cells m).pins) e)))
@@ -84,7 +84,7 @@ pins_set c n k t pins j m lt inside is = at_cases (λ (f : ℕ → ℕ). f m ≡
     (λ nm. subst (λ l. slice_index (tracked_at c.cells m).pins j ≡ slice_index l j) (sym is) (set_cases (λ x. slice_index (tracked_at c.cells m).pins j ≡ x) (tracked_at c.cells n).pins k pins j 0 inside (λ e. absurd (ne e)) (λ _. ap (λ i. slice_index (tracked_at c.cells i).pins j) (sym nm)))) (λ _. refl))
 
 pub becomes_pins : (c : Checked) (n k pins : ℕ) → n < length c.cells → k < length (tracked_at c.cells n).pins
-    → Becomes c (with_pins (state_of c) k n pins) (with_cells c (slice_set c.cells n (with_pins_of (tracked_at c.cells n) k pins)))
+    → Becomes c (with_pins (checked_state c) k n pins) (with_cells c (slice_set c.cells n (with_pins_of (tracked_at c.cells n) k pins)))
 becomes_pins c n k pins lt inside = record {
   reached = record {
     cells = λ m. set_cases (λ (x : Tracked). (tracked_at c.cells m).state ≡ x.state) c.cells n (with_pins_of (tracked_at c.cells n) k pins) m untracked lt (λ e. ap (λ j. (tracked_at c.cells j).state) (sym e)) (λ _. refl);
@@ -96,13 +96,13 @@ becomes_pins c n k pins lt inside = record {
 }
 
 pub becomes_voxel : (c : Checked) (n at x : ℕ) → n < length c.cells → at < length (tracked_at c.cells n).array
-    → Becomes c (with_voxel (state_of c) n at x) (with_cells c (slice_set c.cells n (with_value (tracked_at c.cells n) at x)))
+    → Becomes c (with_voxel (checked_state c) n at x) (with_cells c (slice_set c.cells n (with_value (tracked_at c.cells n) at x)))
 becomes_voxel c n at x lt inside = record {
   reached = record {
     cells = λ m. set_cases (λ (y : Tracked). (tracked_at c.cells m).state ≡ y.state) c.cells n (with_value (tracked_at c.cells n) at x) m untracked lt (λ e. ap (λ j. (tracked_at c.cells j).state) (sym e)) (λ _. refl);
     pins = λ k m. set_cases (λ (y : Tracked). slice_index (tracked_at c.cells m).pins k ≡ slice_index y.pins k) c.cells n (with_value (tracked_at c.cells n) at x) m untracked lt (λ e. ap (λ j. slice_index (tracked_at c.cells j).pins k) (sym e)) (λ _. refl);
-    arrays = λ m _ _ i _. at_cases (λ (f : ℕ → ℕ). f i ≡ slice_index (tracked_at (slice_set c.cells n (with_value (tracked_at c.cells n) at x)) m).array i) (state_of c).arrays n (with_at ((state_of c).arrays n) at x) m
-        (λ nm. set_cases (λ (y : Tracked). with_at ((state_of c).arrays n) at x i ≡ slice_index y.array i) c.cells n (with_value (tracked_at c.cells n) at x) m untracked lt
+    arrays = λ m _ _ i _. at_cases (λ (f : ℕ → ℕ). f i ≡ slice_index (tracked_at (slice_set c.cells n (with_value (tracked_at c.cells n) at x)) m).array i) (checked_state c).arrays n (with_at ((checked_state c).arrays n) at x) m
+        (λ nm. set_cases (λ (y : Tracked). with_at ((checked_state c).arrays n) at x i ≡ slice_index y.array i) c.cells n (with_value (tracked_at c.cells n) at x) m untracked lt
         (λ _. read_set (λ y. y) (tracked_at c.cells n).array at x i 0 inside) (λ ne. absurd (ne nm)))
         (λ ne. set_cases (λ (y : Tracked). slice_index (tracked_at c.cells m).array i ≡ slice_index y.array i) c.cells n (with_value (tracked_at c.cells n) at x) m untracked lt (λ nm. absurd (ne nm)) (λ _. refl));
   };
@@ -154,7 +154,7 @@ keeps_vacate c n slot t owners valid may none had =
     one_slot (cell.Loading k) s t p q = absurd p
 
 pub becomes_live : (c : Checked) (n k slot pins : ℕ) → n < length c.cells → k < length (tracked_at c.cells n).pins
-    → Becomes c (with_pins (with_cell (state_of c) n (cell.Live slot false)) k n pins) (with_cells c (slice_set c.cells n (lived (tracked_at c.cells n) slot k pins)))
+    → Becomes c (with_pins (with_cell (checked_state c) n (cell.Live slot false)) k n pins) (with_cells c (slice_set c.cells n (lived (tracked_at c.cells n) slot k pins)))
 becomes_live c n k slot pins lt inside = record {
   reached = record {
     cells = λ m. read_set (λ (x : Tracked). x.state) c.cells n (lived (tracked_at c.cells n) slot k pins) m untracked lt;

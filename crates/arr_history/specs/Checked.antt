@@ -38,11 +38,11 @@ pub record Checked : Type 0 where
   pub passes : ℕ
 
 -- a checker tells each array
-abbrev pub shape_of : Checked → Shape
-shape_of c = shape_over c.levels c.slots (λ n. (tracked_at c.cells n).void) (λ _. true)
+abbrev pub checked_shape : Checked → Shape
+checked_shape c = shape_over c.levels c.slots (λ n. (tracked_at c.cells n).void) (λ _. true)
 
-abbrev pub state_of : Checked → State
-state_of c = state_in c.cells
+abbrev pub checked_state : Checked → State
+checked_state c = state_in c.cells
 
 -- the array of a cell, of a list of arrays
 abbrev pub array_of : List (Vec ℕ) → ℕ → List ℕ
@@ -50,13 +50,13 @@ array_of arrays n = slice_index_or (map (λ v. v.items) arrays) n []
 
 -- A checker is in this state from now on, and all else is as it was.
 pub record Becomes (old : Checked) (state : State) (new : Checked) : Type 0 where
-  pub reached : IsSame (shape_of old) state (state_of new)
-  pub shape : IsSameShape (shape_of old) (shape_of new)
+  pub reached : IsSame (checked_shape old) state (checked_state new)
+  pub shape : IsSameShape (checked_shape old) (checked_shape new)
   pub passes : new.passes ≡ old.passes
 
 -- An event is accepted where it is legal and its pass is in range.
 abbrev pub MayHappen : Checked → Event → Type 0
-MayHappen c e = (pass_of e < c.passes) × IsLegal (shape_of c) (state_of c) e
+MayHappen c e = (pass_of e < c.passes) × IsLegal (checked_shape c) (checked_state c) e
 
 -- what holds of every checker: each cell has its pins and its array, and each taken slot knows its cell
 pub record IsChecked (c : Checked) (owners : List (Option ℕ)) : Type 0 where

@@ -1,6 +1,6 @@
 -- Lists of events, the oldest first: what they leave, when they are legal, and where they lead.
-use Rattle.std.specs.Prelude.{◌≡◌, ℕ, ◌<◌, ◌==◌, IsTrue, List, [], ◌∷◌}
-use Rattle.std.specs.List.{filter}
+use Rattle.std.specs.Prelude.{◌≡◌, ℕ, ◌<◌, IsTrue, List, [], ◌∷◌, ◌++◌}
+use Rattle.pass_roster.specs.History.{entries_by}
 use Rattle.arr_history.specs.declared.event.Event.{Event}
 use Rattle.arr_history.specs.declared.event.Event.TheVariants.{Pin, Miss, Unpin, Mark, Read, Write, Claim, Drop, Live, Close, Gone, Back}
 use Rattle.arr_history.specs.State.{State}
@@ -62,4 +62,8 @@ cell_of (Back k c) = c
 
 -- the events of one pass, in their order
 abbrev pub mine : ℕ → List Event → List Event
-mine k events = filter (λ e. pass_of e == k) events
+mine k events = entries_by pass_of k events
+
+-- a cell was marked in these events
+abbrev pub WasMarked : ℕ → List Event → Type 0
+WasMarked c events = (k : ℕ) × (before since : List Event) × (events ≡ before ++ Mark k c ∷ since)

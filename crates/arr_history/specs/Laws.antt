@@ -1,14 +1,15 @@
 -- What every legal history keeps, and how histories may be put together.
-use Rattle.std.specs.Prelude.{◌≡◌, ◌≢◌, ℕ, ◌<◌, ◌==◌, ◌&&◌, Bool, false, List, [], ◌∷◌, ◌++◌}
+use Rattle.std.specs.Prelude.{◌≡◌, ◌≢◌, ◌↔◌, ℕ, ◌<◌, ◌==◌, ◌&&◌, Bool, true, false, IsTrue, List, [], ◌∷◌, ◌++◌}
 use Rattle.std.specs.List.{list_any}
+use Rattle.pass_roster.specs.History.{StartsWith}
 use Rattle.arr_history.specs.declared.event.Event.{Event}
 use Rattle.arr_history.specs.declared.event.Event.TheVariants.{Unpin, Mark, Write, Claim, Drop, Close, Gone, Back}
-use Rattle.arr_history.specs.declared.cell_state.CellState.{CellState}
 use Rattle.arr_history.specs.declared.cell_state.CellState.TheVariants as cell
-use Rattle.arr_history.specs.State.{State}
+use Rattle.arr_history.specs.State.{State, opening}
 use Rattle.arr_history.specs.Shape.{Shape, IsSameShape}
-use Rattle.arr_history.specs.Legal.{IsLive, LiveIn, HasSlot}
-use Rattle.arr_history.specs.History.{after, AreLegal, LeadTo}
+use Rattle.arr_history.specs.Legal.{IsLive, LiveIn, HasSlot, has_mark}
+use Rattle.arr_history.specs.History.{after, AreLegal, LeadTo, mine, WasMarked}
+use Rattle.arr_history.specs.Owners.{is_owner, is_at_work, IsAtRest}
 
 -- A pinned cell is live, and a slot has one cell. Since a cell has one state, it has at most one live copy.
 pub record IsSound (s : State) : Type 0 where
@@ -36,25 +37,53 @@ puts c (Gone k d saved) = saved && (d == c)
 puts c (Back k d) = d == c
 puts c other = false
 
--- a cell has no mark
-abbrev pub IsUnmarked : CellState → Type 0
-IsUnmarked (cell.Live slot mark) = mark ≡ false
-IsUnmarked (cell.Leaving k slot mark) = mark ≡ false
-IsUnmarked other = Unit {0}
-
 -- what a legal history keeps
 pub record KeepsLaws (s : State) (events : List Event) : Type 0 where
   pub sound : IsSound (after s events)
   -- an array changes by writes alone
   pub unwritten : (c i : ℕ) → list_any (writes c i) events ≡ false → (after s events).arrays c i ≡ s.arrays c i
-  -- a pinned cell stays live in its slot while the pass that pinned it doesn't unpin it
-  pub stays : (k c slot : ℕ) → 0 < s.pins k c → LiveIn (s.cells c) slot → list_any (unpins k c) events ≡ false → LiveIn ((after s events).cells c) slot
+  -- a live cell stays in its slot while somebody has a pin on it
+  pub stays : (c slot : ℕ) → LiveIn (s.cells c) slot → ((front : List Event) → StartsWith events front → (k : ℕ) × (0 < (after s front).pins k c)) → LiveIn ((after s events).cells c) slot
+  -- a pass keeps a pin on a cell while it takes none from it
+  pub still_pinned : (k c : ℕ) → 0 < s.pins k c → list_any (unpins k c) events ≡ false → 0 < (after s events).pins k c
+  -- the pins of a pass are as its own events have made them
+  pub own_pins : (k c : ℕ) → (after s events).pins k c ≡ (after s (mine k events)).pins k c
   -- a cell is put only after it was marked
-  pub unput : (c : ℕ) → IsUnmarked (s.cells c) → list_any (marks c) events ≡ false → list_any (puts c) events ≡ false
+  pub unput : (c : ℕ) → has_mark (s.cells c) ≡ false → list_any (marks c) events ≡ false → list_any (puts c) events ≡ false
+  -- a pass loads a cell, or turns it out, where by its own events it is at work on it, and nowhere else
+  pub owners : (k c : ℕ) → is_owner k ((after s events).cells c) ≡ is_at_work c (is_owner k (s.cells c)) (mine k events)
 
 -- These laws hold of every legal history.
 abbrev pub KeptLaws : Type 0
 KeptLaws = (b : Shape) (s : State) (events : List Event) → IsSound s → AreLegal b s events → KeepsLaws s events
+
+-- what a legal history from the opening has led to
+pub record HoldsFromOpening (b : Shape) (s : State) (events : List Event) : Type 0 where
+  pub sound : IsSound s
+  pub in_range : (c slot : ℕ) → HasSlot (s.cells c) slot → slot < b.slots
+  -- a told cell that is live or leaving, or was ever marked, isn't void
+  pub has_array : (c slot : ℕ) → IsTrue (b.is_told c) → HasSlot (s.cells c) slot → b.is_void c ≡ false
+  pub had_array : (c : ℕ) → IsTrue (b.is_told c) → WasMarked c events → b.is_void c ≡ false
+  -- a cell with a mark was marked
+  pub marked : (c : ℕ) → has_mark (s.cells c) ≡ true → WasMarked c events
+  -- where each pass has ended what it began on a cell, it is absent or live
+  pub at_rest : (c : ℕ) → ((k : ℕ) → is_at_work c false (mine k events) ≡ false) → IsAtRest (s.cells c)
+
+-- It holds of every such history.
+abbrev pub HeldFromOpening : Type 0
+HeldFromOpening = (b : Shape) (arrays : ℕ → ℕ → ℕ) (events : List Event) → AreLegal b (opening arrays) events → HoldsFromOpening b (after (opening arrays) events) events
+
+-- A list of events is legal where its first part is, and its second part from where the first led.
+abbrev pub PartsAreLegal : Type 0
+PartsAreLegal = (b : Shape) (s : State) (p q : List Event) → AreLegal b s (p ++ q) ↔ (AreLegal b s p × AreLegal b (after s p) q)
+
+-- It leads where its second part leads from there.
+abbrev pub PartsLeadOn : Type 0
+PartsLeadOn = (s : State) (p q : List Event) → after s (p ++ q) ≡ after (after s p) q
+
+-- A pass is at work after a list of events as after its second part, from what it was after the first.
+abbrev pub WorkGoesOn : Type 0
+WorkGoesOn = (c : ℕ) (was : Bool) (p q : List Event) → is_at_work c was (p ++ q) ≡ is_at_work c (is_at_work c was p) q
 
 -- Events lead on from where others led, also in a like shape.
 abbrev pub Composes : Type 0

@@ -15,6 +15,12 @@ abbrev pub IsMarked : CellState → Type 0
 IsMarked (cell.Live slot true) = Unit {0}
 IsMarked other = ⊥
 
+-- whether a cell has a mark, live or leaving
+abbrev pub has_mark : CellState → Bool
+has_mark (cell.Live slot mark) = mark
+has_mark (cell.Leaving k slot mark) = mark
+has_mark other = false
+
 -- a cell is live in this slot
 abbrev pub LiveIn : CellState → ℕ → Type 0
 LiveIn (cell.Live slot mark) s = slot ≡ s

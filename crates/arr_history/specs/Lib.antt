@@ -3,6 +3,7 @@ pub mod Shape
 pub mod Next
 pub mod Legal
 pub mod History
+pub mod Owners
 pub mod Laws
 pub mod Tally
 pub mod Tracked

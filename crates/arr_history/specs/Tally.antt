@@ -1,6 +1,7 @@
 -- How often things happened: in the run part of a history, and in its shutting part, which is what the shutting adds.
-use Rattle.std.specs.Prelude.{◌≡◌, ℕ, ◌+◌, ◌-◌, ◌^◌, ◌≤◌, Bool, true, false, List, [], ◌++◌, min}
+use Rattle.std.specs.Prelude.{◌≡◌, ℕ, ◌+◌, ◌-◌, ◌^◌, ◌≤◌, Bool, true, false, List, [], ◌∷◌, ◌++◌, map, min}
 use Rattle.std.specs.List.{count_by}
+use Rattle.pass_roster.specs.History.{total}
 use Rattle.arr_history.specs.declared.event.Event.{Event}
 use Rattle.arr_history.specs.declared.event.Event.TheVariants.{Pin, Miss, Live, Gone}
 use Rattle.arr_history.specs.declared.tally.Tally.{Tally}
@@ -41,8 +42,8 @@ tally_of run closing = record {
 }
 
 -- counts with those of more events, of which the last part is of the shutting
-abbrev pub raised : Tally → List Event → List Event → Tally
-raised t run closing = record {
+abbrev pub tally_raised : Tally → List Event → List Event → Tally
+tally_raised t run closing = record {
   hits = cut (t.hits + count_by is_hit (run ++ closing));
   misses = cut (t.misses + count_by is_miss (run ++ closing));
   loads = cut (t.loads + count_by is_load (run ++ closing));
@@ -50,6 +51,22 @@ raised t run closing = record {
   writebacks = cut (t.writebacks + count_by is_writeback (run ++ closing));
   closed = cut (t.closed + count_by is_gone closing);
 }
+
+-- the counts of two runs together
+abbrev pub plus : Tally → Tally → Tally
+plus t u = record {
+  hits = cut (t.hits + u.hits);
+  misses = cut (t.misses + u.misses);
+  loads = cut (t.loads + u.loads);
+  evictions = cut (t.evictions + u.evictions);
+  writebacks = cut (t.writebacks + u.writebacks);
+  closed = cut (t.closed + u.closed);
+}
+
+-- the counts of many runs together
+abbrev pub sum_of : List Tally → Tally
+sum_of [] = tally_of [] []
+sum_of (t ∷ tallies) = plus t (sum_of tallies)
 
 -- each count fits 64 bits
 pub record IsTally (t : Tally) : Type 0 where
@@ -70,4 +87,17 @@ pub record AreUncounted (events : List Event) : Type 0 where
 
 -- The tally of a run grows by the counts of what follows.
 abbrev pub TalliesGrow : Type 0
-TalliesGrow = (run more closing : List Event) → tally_of (run ++ more) closing ≡ raised (tally_of run []) more closing
+TalliesGrow = (run more closing : List Event) → tally_of (run ++ more) closing ≡ tally_raised (tally_of run []) more closing
+
+-- The tally of a history in two parts is that of both together.
+abbrev pub PartsAddUp : Type 0
+PartsAddUp = (run more closing rest : List Event) → tally_of (run ++ more) (closing ++ rest) ≡ plus (tally_of run closing) (tally_of more rest)
+
+-- Where each weight of a history is that of the passes' own events, its tally is that of all passes together.
+abbrev pub PassesAddUp : Type 0
+PassesAddUp = (history : List Event) (passes : List (List Event)) → ((weight : Event → ℕ) → total weight history ≡ total (total weight) passes)
+    → tally_of history [] ≡ sum_of (map (λ own. tally_of own []) passes)
+
+-- Every tally fits.
+abbrev pub TalliesFit : Type 0
+TalliesFit = (run closing : List Event) → IsTally (tally_of run closing)

@@ -11,7 +11,7 @@ ghost use Rattle.arr_history.specs.Next.{marked, leaving, returned, next};
 ghost use Rattle.arr_history.specs.Legal.{IsLive, IsMarked, HasSlot, IsLeaving, IsLegal};
 ghost use Rattle.arr_history.specs.History.{IsSame};
 ghost use Rattle.arr_history.specs.Tracked.{tracked_at, fresh};
-ghost use Rattle.arr_history.specs.Checked.{shape_over, array_of, shape_of, state_of, Becomes, MayHappen};
+ghost use Rattle.arr_history.specs.Checked.{shape_over, array_of, checked_shape, checked_state, Becomes, MayHappen};
 
 use crate::cell_state::CellState;
 use crate::event::Event;
@@ -62,8 +62,8 @@ impl Checker {
         requires lengths { (n : ℕ) → n < cells_of geometry.now → length (array_of arrays.items n) ≡ voxels_of geometry.now n }
         requires void { length void.items ≡ cells_of geometry.now }
         requires few { passes * cells_of geometry.now ≤ 2 ^ 24 }
-        ensures shape { IfOk result (λ checker. IsSameShape (shape_over geometry.now slots (λ n. slice_index_or void.items n false) (λ _. true)) (shape_of checker)) }
-        ensures opening { IfOk result (λ checker. IsSame (shape_of checker) (opening (λ n i. slice_index (array_of arrays.items n) i)) (state_of checker)) }
+        ensures shape { IfOk result (λ checker. IsSameShape (shape_over geometry.now slots (λ n. slice_index_or void.items n false) (λ _. true)) (checked_shape checker)) }
+        ensures opening { IfOk result (λ checker. IsSame (checked_shape checker) (opening (λ n i. slice_index (array_of arrays.items n) i)) (checked_state checker)) }
         ensures passes { IfOk result (λ checker. checker.passes ≡ passes) }
     {
         Ok(Checker {
@@ -79,7 +79,7 @@ impl Checker {
     pub fn step(&mut self, event: &Event) -> bool
         requires room { (k n : ℕ) → event.now ≡ happening.Pin k n → slice_index (tracked_at self.old.cells n).pins k < 2 ^ 32 - 1 }
         ensures legal { IsTrue result ↔ MayHappen self.old event.now }
-        ensures accepted { IsTrue result → Becomes self.old (next (state_of self.old) event.now) self.new }
+        ensures accepted { IsTrue result → Becomes self.old (next (checked_state self.old) event.now) self.new }
         ensures refused { result ≡ false → self.new ≡ self.old }
     {
         if !self.may_happen(event) {
@@ -92,8 +92,8 @@ impl Checker {
     /// The state of a cell. A cell that has a pin is live.
     pub fn state(&self, cell: u32) -> CellState
         requires { cell < cells_of self.now.levels }
-        ensures state { result ≡ (state_of self.now).cells cell }
-        ensures pinned { (k : ℕ) → 0 < (state_of self.now).pins k cell → IsLive result }
+        ensures state { result ≡ (checked_state self.now).cells cell }
+        ensures pinned { (k : ℕ) → 0 < (checked_state self.now).pins k cell → IsLive result }
     {
         state_at(self.cells.as_slice(), cell as usize)
     }
@@ -137,35 +137,35 @@ impl Checker {
 
     fn is_live(&self, cell: u32) -> bool
         requires { cell < cells_of self.now.levels }
-        ensures { IsTrue result ↔ IsLive ((state_of self.now).cells cell) }
+        ensures { IsTrue result ↔ IsLive ((checked_state self.now).cells cell) }
     {
         matches!(self.state(cell), CellState::Live { .. })
     }
 
     fn is_marked(&self, cell: u32) -> bool
         requires { cell < cells_of self.now.levels }
-        ensures { IsTrue result ↔ IsMarked ((state_of self.now).cells cell) }
+        ensures { IsTrue result ↔ IsMarked ((checked_state self.now).cells cell) }
     {
         matches!(self.state(cell), CellState::Live { marked: true, .. })
     }
 
     fn is_absent(&self, cell: u32) -> bool
         requires { cell < cells_of self.now.levels }
-        ensures { IsTrue result ↔ ((state_of self.now).cells cell ≡ cells.Absent) }
+        ensures { IsTrue result ↔ ((checked_state self.now).cells cell ≡ cells.Absent) }
     {
         self.state(cell) == CellState::Absent
     }
 
     fn is_loading(&self, k: u32, cell: u32) -> bool
         requires { cell < cells_of self.now.levels }
-        ensures { IsTrue result ↔ ((state_of self.now).cells cell ≡ cells.Loading k) }
+        ensures { IsTrue result ↔ ((checked_state self.now).cells cell ≡ cells.Loading k) }
     {
         self.state(cell) == CellState::Loading { k }
     }
 
     fn is_leaving(&self, k: u32, cell: u32, mark: bool) -> bool
         requires { cell < cells_of self.now.levels }
-        ensures { IsTrue result ↔ IsLeaving k mark ((state_of self.now).cells cell) }
+        ensures { IsTrue result ↔ IsLeaving k mark ((checked_state self.now).cells cell) }
     {
         match self.state(cell) {
             CellState::Leaving {
@@ -179,7 +179,7 @@ impl Checker {
 
     /// Whether a pass has a pin on a cell.
     fn is_pinned(&self, k: u32, cell: u32) -> bool
-        ensures { IsTrue result ↔ ((k < self.now.passes) × ((cell < cells_of self.now.levels) × (0 < (state_of self.now).pins k cell))) }
+        ensures { IsTrue result ↔ ((k < self.now.passes) × ((cell < cells_of self.now.levels) × (0 < (checked_state self.now).pins k cell))) }
     {
         self.is_known(k, cell) && self.pins(k, cell) > 0
     }
@@ -188,15 +188,15 @@ impl Checker {
     fn pins(&self, k: u32, cell: u32) -> u32
         requires k { k < self.now.passes }
         requires cell { cell < cells_of self.now.levels }
-        ensures pins { result ≡ (state_of self.now).pins k cell }
-        ensures live { 0 < result → IsLive ((state_of self.now).cells cell) }
+        ensures pins { result ≡ (checked_state self.now).pins k cell }
+        ensures live { 0 < result → IsLive ((checked_state self.now).cells cell) }
     {
         pins_at(self.cells.as_slice(), cell as usize, k as usize)
     }
 
     /// Whether a pass has a pin on a cell, and the cell such a voxel with such a value.
     fn is_voxel(&self, k: u32, cell: u32, at: u32, value: u64) -> bool
-        ensures { IsTrue result ↔ ((k < self.now.passes) × ((cell < cells_of self.now.levels) × (at < (shape_of self.now).voxels cell) × (value ≤ (shape_of self.now).greatest cell) × (0 < (state_of self.now).pins k cell))) }
+        ensures { IsTrue result ↔ ((k < self.now.passes) × ((cell < cells_of self.now.levels) × (at < (checked_shape self.now).voxels cell) × (value ≤ (checked_shape self.now).greatest cell) × (0 < (checked_state self.now).pins k cell))) }
     {
         self.is_pinned(k, cell)
             && at < self.geometry.voxels(cell)
@@ -207,7 +207,7 @@ impl Checker {
     fn value(&self, cell: u32, at: u32) -> u64
         requires cell { cell < cells_of self.now.levels }
         requires at { at < voxels_of self.now.levels cell }
-        ensures { result ≡ (state_of self.now).arrays cell at }
+        ensures { result ≡ (checked_state self.now).arrays cell at }
     {
         value_at(self.cells.as_slice(), cell as usize, at as usize)
     }
@@ -215,7 +215,7 @@ impl Checker {
     /// Whether a cell isn't void and no cell is live or leaving in a slot in range.
     fn may_live(&self, cell: u32, slot: u32) -> bool
         requires { cell < cells_of self.now.levels }
-        ensures { IsTrue result ↔ ((slot < self.now.slots) × ((shape_of self.now).is_void cell ≡ false) × ((d : ℕ) → ¬ HasSlot ((state_of self.now).cells d) slot)) }
+        ensures { IsTrue result ↔ ((slot < self.now.slots) × ((checked_shape self.now).is_void cell ≡ false) × ((d : ℕ) → ¬ HasSlot ((checked_state self.now).cells d) slot)) }
     {
         !self.is_void(cell) && self.has_slot(slot) && self.owner(slot).is_none()
     }
@@ -223,7 +223,7 @@ impl Checker {
     /// Whether a cell is void.
     fn is_void(&self, cell: u32) -> bool
         requires { cell < cells_of self.now.levels }
-        ensures { result ≡ (shape_of self.now).is_void cell }
+        ensures { result ≡ (checked_shape self.now).is_void cell }
     {
         is_void(self.cells.as_slice(), cell as usize)
     }
@@ -238,8 +238,8 @@ impl Checker {
     /// The cell that is live or leaving in a slot.
     fn owner(&self, slot: u32) -> Option<u32>
         requires { slot < self.now.slots }
-        ensures none { IfNone result ((d : ℕ) → ¬ HasSlot ((state_of self.now).cells d) slot) }
-        ensures some { IfSome result (λ d. HasSlot ((state_of self.now).cells d) slot) }
+        ensures none { IfNone result ((d : ℕ) → ¬ HasSlot ((checked_state self.now).cells d) slot) }
+        ensures some { IfSome result (λ d. HasSlot ((checked_state self.now).cells d) slot) }
     {
         self.owners[slot as usize]
     }
@@ -247,7 +247,7 @@ impl Checker {
     /// Whether a cell is live and nobody has a pin on it.
     fn may_close(&self, cell: u32) -> bool
         requires { cell < cells_of self.now.levels }
-        ensures { IsTrue result ↔ (IsLive ((state_of self.now).cells cell) × ((k : ℕ) → (state_of self.now).pins k cell ≡ 0)) }
+        ensures { IsTrue result ↔ (IsLive ((checked_state self.now).cells cell) × ((k : ℕ) → (checked_state self.now).pins k cell ≡ 0)) }
     {
         self.is_live(cell) && is_unpinned(self.cells.as_slice(), cell as usize)
     }
@@ -259,7 +259,7 @@ impl Checker {
     fn accept(&mut self, event: &Event)
         requires legal { MayHappen self.old event.now }
         requires room { (k n : ℕ) → event.now ≡ happening.Pin k n → slice_index (tracked_at self.old.cells n).pins k < 2 ^ 32 - 1 }
-        ensures { Becomes self.old (next (state_of self.old) event.now) self.new }
+        ensures { Becomes self.old (next (checked_state self.old) event.now) self.new }
     {
         match *event {
             Event::Miss { .. } | Event::Read { .. } => {}
@@ -284,9 +284,9 @@ impl Checker {
     /// Puts a cell into a state with the same slot.
     fn set_state(&mut self, cell: u32, state: CellState)
         requires cell { cell < cells_of self.old.levels }
-        requires slot { (slot : ℕ) → HasSlot state slot ↔ HasSlot ((state_of self.old).cells cell) slot }
-        requires pinned { (k : ℕ) → 0 < (state_of self.old).pins k cell → IsLive state }
-        ensures { Becomes self.old (with_cell (state_of self.old) cell state) self.new }
+        requires slot { (slot : ℕ) → HasSlot state slot ↔ HasSlot ((checked_state self.old).cells cell) slot }
+        requires pinned { (k : ℕ) → 0 < (checked_state self.old).pins k cell → IsLive state }
+        ensures { Becomes self.old (with_cell (checked_state self.old) cell state) self.new }
     {
         set_state(&mut self.cells, cell as usize, state);
     }
@@ -294,11 +294,11 @@ impl Checker {
     /// Puts a cell that isn't live, and so has no pins, into a state with the same slot.
     fn set_idle(&mut self, cell: u32, state: CellState)
         requires cell { cell < cells_of self.old.levels }
-        requires slot { (slot : ℕ) → HasSlot state slot ↔ HasSlot ((state_of self.old).cells cell) slot }
-        requires idle { ¬ IsLive ((state_of self.old).cells cell) }
-        ensures { Becomes self.old (with_cell (state_of self.old) cell state) self.new }
+        requires slot { (slot : ℕ) → HasSlot state slot ↔ HasSlot ((checked_state self.old).cells cell) slot }
+        requires idle { ¬ IsLive ((checked_state self.old).cells cell) }
+        ensures { Becomes self.old (with_cell (checked_state self.old) cell state) self.new }
     {
-        let _idle = self.state(cell);
+        let _idle = self.state(cell); // read for what its contract tells the proof
         self.set_state(cell, state);
     }
 
@@ -306,8 +306,8 @@ impl Checker {
     fn set_pins(&mut self, k: u32, cell: u32, pins: u32)
         requires k { k < self.old.passes }
         requires cell { cell < cells_of self.old.levels }
-        requires live { IsLive ((state_of self.old).cells cell) }
-        ensures { Becomes self.old (with_pins (state_of self.old) k cell pins) self.new }
+        requires live { IsLive ((checked_state self.old).cells cell) }
+        ensures { Becomes self.old (with_pins (checked_state self.old) k cell pins) self.new }
     {
         set_pins(&mut self.cells, cell as usize, k as usize, pins);
     }
@@ -316,7 +316,7 @@ impl Checker {
     fn set_value(&mut self, cell: u32, at: u32, value: u64)
         requires cell { cell < cells_of self.old.levels }
         requires at { at < voxels_of self.old.levels cell }
-        ensures { Becomes self.old (with_voxel (state_of self.old) cell at value) self.new }
+        ensures { Becomes self.old (with_voxel (checked_state self.old) cell at value) self.new }
     {
         set_value(&mut self.cells, cell as usize, at as usize, value);
     }
@@ -327,7 +327,7 @@ impl Checker {
     /// Makes a loading cell live in a free slot, with one pin: nobody had a pin on it.
     fn seat(&mut self, k: u32, cell: u32, slot: u32)
         requires { MayHappen self.old (happening.Live k cell slot) }
-        ensures { Becomes self.old (next (state_of self.old) (happening.Live k cell slot)) self.new }
+        ensures { Becomes self.old (next (checked_state self.old) (happening.Live k cell slot)) self.new }
     {
         set_live(&mut self.cells, cell as usize, slot, k as usize, 1);
         self.owners[slot as usize] = Some(cell);
@@ -336,8 +336,8 @@ impl Checker {
     /// Takes a leaving cell out of its slot.
     fn leave(&mut self, cell: u32)
         requires cell { cell < cells_of self.old.levels }
-        requires leaving { (k : ℕ) × ((mark : Bool) × IsLeaving k mark ((state_of self.old).cells cell)) }
-        ensures { Becomes self.old (with_cell (state_of self.old) cell cells.Absent) self.new }
+        requires leaving { (k : ℕ) × ((mark : Bool) × IsLeaving k mark ((checked_state self.old).cells cell)) }
+        ensures { Becomes self.old (with_cell (checked_state self.old) cell cells.Absent) self.new }
     {
         match self.state(cell) {
             CellState::Leaving { slot, .. } => self.vacate(cell, slot),
@@ -348,9 +348,9 @@ impl Checker {
     /// Takes a cell without pins out of its slot.
     fn vacate(&mut self, cell: u32, slot: u32)
         requires cell { cell < cells_of self.old.levels }
-        requires slot { HasSlot ((state_of self.old).cells cell) slot }
-        requires unpinned { (k : ℕ) → (state_of self.old).pins k cell ≡ 0 }
-        ensures { Becomes self.old (with_cell (state_of self.old) cell cells.Absent) self.new }
+        requires slot { HasSlot ((checked_state self.old).cells cell) slot }
+        requires unpinned { (k : ℕ) → (checked_state self.old).pins k cell ≡ 0 }
+        ensures { Becomes self.old (with_cell (checked_state self.old) cell cells.Absent) self.new }
     {
         set_state(&mut self.cells, cell as usize, CellState::Absent);
         self.owners[slot as usize] = None;

@@ -15,5 +15,8 @@ pub use cell_state::{CellState, Seen};
 pub use checker::{Checker, Memory};
 pub use closed::{Closed, Unmade, Unsaved};
 pub use event::Event;
-pub use laws::{claims_come_first, histories_compose, histories_keep_laws, tallies_grow};
+pub use laws::{
+    claims_come_first, histories_compose, histories_hold_from_the_opening, histories_keep_laws,
+    histories_split, tallies_add_up, tallies_grow,
+};
 pub use tally::Tally;

@@ -1,6 +1,6 @@
 //! How often things happened in a run.
 ghost use Rattle.std.specs.Prelude.{◌≡◌, [], ◌∷◌};
-ghost use Rattle.arr_history.specs.Tally.{raised};
+ghost use Rattle.arr_history.specs.Tally.{tally_raised, plus};
 
 use crate::event::Event;
 
@@ -24,7 +24,7 @@ pub struct Tally {
 impl Tally {
     /// The counts with an event that comes before the shutting.
     pub fn with_event(mut self, event: &Event) -> Tally
-        ensures { result ≡ raised self (event.now ∷ []) [] }
+        ensures { result ≡ tally_raised self (event.now ∷ []) [] }
     {
         match *event {
             Event::Pin { .. } => self.hits = self.hits.saturating_add(1),
@@ -41,7 +41,7 @@ impl Tally {
 
     /// The counts with an event of the shutting.
     pub fn with_closing(self, event: &Event) -> Tally
-        ensures { result ≡ raised self [] (event.now ∷ []) }
+        ensures { result ≡ tally_raised self [] (event.now ∷ []) }
     {
         let mut counted = self.with_event(event);
         counted.evictions = self.evictions;
@@ -49,5 +49,19 @@ impl Tally {
             counted.closed = self.closed.saturating_add(1);
         }
         counted
+    }
+
+    /// The counts of two runs together.
+    pub fn plus(self, other: Tally) -> Tally
+        ensures { result ≡ plus self other }
+    {
+        Tally {
+            hits: self.hits.saturating_add(other.hits),
+            misses: self.misses.saturating_add(other.misses),
+            loads: self.loads.saturating_add(other.loads),
+            evictions: self.evictions.saturating_add(other.evictions),
+            writebacks: self.writebacks.saturating_add(other.writebacks),
+            closed: self.closed.saturating_add(other.closed),
+        }
     }
 }

@@ -70,8 +70,20 @@ fn the_counts_of_a_run_and_of_its_shutting(rt: HostRuntime) {
         closed: 1,
     };
     assert_eq!(rt; tally, want);
+    let twice = Tally {
+        hits: 2,
+        misses: 2,
+        loads: 2,
+        evictions: 2,
+        writebacks: 4,
+        closed: 2,
+    };
+    assert_eq!(rt; tally.plus(want), twice);
     histories_keep_laws();
+    histories_hold_from_the_opening();
+    histories_split();
     histories_compose();
     claims_come_first();
     tallies_grow();
+    tallies_add_up();
 }

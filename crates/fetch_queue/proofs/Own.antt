@@ -8,7 +8,7 @@ use Rattle.std.proofs.lemmas.List.Elements.{filter-append}
 use Rattle.ix_links.specs.NodeList.{without}
 use Rattle.ix_links.specs.NodeLists.{NodeLists, list_at, with_list, without_node, IsDisjoint}
 use Rattle.ix_links.proofs.Rows.{row_without}
-use Rattle.fetch_queue.specs.Ranking.{is_of, own_of, joined}
+use Rattle.fetch_queue.specs.Ranking.{is_of, own_of, joined_nodes}
 use Rattle.fetch_queue.specs.Ranks.{IsRanked}
 use Rattle.fetch_queue.specs.declared.ranks.Ranks.TheInside.{Inside}
 use Rattle.fetch_queue.proofs.Filters.{filter_swap}
@@ -31,52 +31,52 @@ own_without viewers cells priorities order own node are viewer priority v p =
     ∙ filter_swap (λ y. not (node == y)) (is_of cells viewer) (list_at order priority)
     ∙ ap (λ (xs : List ℕ). own_of cells viewer xs) (sym (row_without order.lists priority node))
 
-joined_own : (p : ℕ → Bool) (xs : List ℕ) (node : ℕ) (to_front : Bool) → p node ≡ true → filter p (joined xs node to_front) ≡ joined (filter p xs) node to_front
+joined_own : (p : ℕ → Bool) (xs : List ℕ) (node : ℕ) (to_front : Bool) → p node ≡ true → filter p (joined_nodes xs node to_front) ≡ joined_nodes (filter p xs) node to_front
 joined_own p xs node true passes = rw passes
 joined_own p xs node false passes = filter-append p xs (node ∷ []) ∙ ap (λ (b : Bool). filter p xs ++ cond b (node ∷ []) []) passes
 
-joined_other : (p : ℕ → Bool) (xs : List ℕ) (node : ℕ) (to_front : Bool) → p node ≡ false → filter p (joined xs node to_front) ≡ filter p xs
+joined_other : (p : ℕ → Bool) (xs : List ℕ) (node : ℕ) (to_front : Bool) → p node ≡ false → filter p (joined_nodes xs node to_front) ≡ filter p xs
 joined_other p xs node true fails = rw fails
 joined_other p xs node false fails = filter-append p xs (node ∷ []) ∙ ap (λ (b : Bool). filter p xs ++ cond b (node ∷ []) []) fails ∙ append-nil (filter p xs)
 
 pub own_put : (viewers cells priorities : ℕ) (order own : NodeLists) (node at : ℕ) (to_front : Bool) → AreOwn viewers cells priorities order own →
     at < priorities → node / cells < viewers → at < length order.lists → (node / cells) * priorities + at < length own.lists →
-    AreOwn viewers cells priorities (with_list order at (joined (list_at order at) node to_front))
-    (with_list own ((node / cells) * priorities + at) (joined (list_at own ((node / cells) * priorities + at)) node to_front))
+    AreOwn viewers cells priorities (with_list order at (joined_nodes (list_at order at) node to_front))
+    (with_list own ((node / cells) * priorities + at) (joined_nodes (list_at own ((node / cells) * priorities + at)) node to_front))
 own_put viewers cells priorities order own node at to_front are at_in owner_in at_within own_within viewer priority v p =
     elim (cases_eq priority at) as (λ _. get_or own' (viewer * priorities + priority) [] ≡ own_of cells viewer (get_or order' priority [])) [
       | inl same ↦ elim (cases_eq viewer (node / cells)) as (λ _. get_or own' (viewer * priorities + priority) [] ≡ own_of cells viewer (get_or order' priority [])) [
         | inl mine ↦
             let place : viewer * priorities + priority ≡ index = ap (λ (k : ℕ). k * priorities + priority) mine ∙ ap (λ (k : ℕ). (node / cells) * priorities + k) same in
-            ap (λ (k : ℕ). get_or own' k []) place ∙ get_or-set_same own.lists index (joined (list_at own index) node to_front) [] own_within
-            ∙ ap (λ (xs : List ℕ). joined xs node to_front) (ap (λ (k : ℕ). get_or own.lists k []) (sym place) ∙ are viewer priority v p ∙ ap (λ (k : ℕ). own_of cells viewer (get_or order.lists k [])) same)
+            ap (λ (k : ℕ). get_or own' k []) place ∙ get_or-set_same own.lists index (joined_nodes (list_at own index) node to_front) [] own_within
+            ∙ ap (λ (xs : List ℕ). joined_nodes xs node to_front) (ap (λ (k : ℕ). get_or own.lists k []) (sym place) ∙ are viewer priority v p ∙ ap (λ (k : ℕ). own_of cells viewer (get_or order.lists k [])) same)
             ∙ sym (joined_own (is_of cells viewer) (list_at order at) node to_front (eq-eqb (node / cells) viewer (sym mine)))
             ∙ ap (λ (xs : List ℕ). own_of cells viewer xs) (sym here ∙ ap (λ (k : ℕ). get_or order' k []) (sym same))
         | inr other ↦
             let apart : viewer * priorities + priority ≢ index = λ e. other (row_same priorities viewer priority (node / cells) at p at_in e) in
-            get_or-set_other own.lists index (viewer * priorities + priority) (joined (list_at own index) node to_front) [] apart
+            get_or-set_other own.lists index (viewer * priorities + priority) (joined_nodes (list_at own index) node to_front) [] apart
             ∙ are viewer priority v p ∙ ap (λ (k : ℕ). own_of cells viewer (get_or order.lists k [])) same
             ∙ sym (joined_other (is_of cells viewer) (list_at order at) node to_front (ne_eqb (node / cells) viewer (λ e. other (sym e))))
             ∙ ap (λ (xs : List ℕ). own_of cells viewer xs) (sym here ∙ ap (λ (k : ℕ). get_or order' k []) (sym same))
       ]
       | inr different ↦
           let apart : viewer * priorities + priority ≢ index = λ e. different (column_same priorities viewer priority (node / cells) at p at_in e) in
-          get_or-set_other own.lists index (viewer * priorities + priority) (joined (list_at own index) node to_front) [] apart
+          get_or-set_other own.lists index (viewer * priorities + priority) (joined_nodes (list_at own index) node to_front) [] apart
           ∙ are viewer priority v p
-          ∙ ap (λ (xs : List ℕ). own_of cells viewer xs) (sym (get_or-set_other order.lists at priority (joined (list_at order at) node to_front) [] different))
+          ∙ ap (λ (xs : List ℕ). own_of cells viewer xs) (sym (get_or-set_other order.lists at priority (joined_nodes (list_at order at) node to_front) [] different))
     ]
   where
     index : ℕ
     index = (node / cells) * priorities + at
 
     own' : List (List ℕ)
-    own' = set own.lists ((node / cells) * priorities + at) (joined (list_at own ((node / cells) * priorities + at)) node to_front)
+    own' = set own.lists ((node / cells) * priorities + at) (joined_nodes (list_at own ((node / cells) * priorities + at)) node to_front)
 
     order' : List (List ℕ)
-    order' = set order.lists at (joined (list_at order at) node to_front)
+    order' = set order.lists at (joined_nodes (list_at order at) node to_front)
 
-    here : get_or order' at [] ≡ joined (list_at order at) node to_front
-    here = get_or-set_same order.lists at (joined (list_at order at) node to_front) [] at_within
+    here : get_or order' at [] ≡ joined_nodes (list_at order at) node to_front
+    here = get_or-set_same order.lists at (joined_nodes (list_at order at) node to_front) [] at_within
 
 -- a change of the prefetch list alone
 pub own_behind : (viewers cells priorities : ℕ) (order own : NodeLists) (xs : List ℕ) → AreOwn viewers cells priorities order own →
@@ -113,15 +113,15 @@ ranked_without i r node order own d e a b =
     (own_without i.viewers i.cells i.priorities i.order i.own node r.own)))
 
 pub ranked_put : (i : Inside) → IsRanked i → (priority node : ℕ) (to_front : Bool) (order own : NodeLists) → IsDisjoint order → IsDisjoint own → priority < i.priorities → node < i.order.nodes →
-    order ≡ with_list (without_node i.order node) priority (joined (list_at (without_node i.order node) priority) node to_front) →
-    own ≡ with_list (without_node i.own node) ((node / i.cells) * i.priorities + priority) (joined (list_at (without_node i.own node) ((node / i.cells) * i.priorities + priority)) node to_front) →
+    order ≡ with_list (without_node i.order node) priority (joined_nodes (list_at (without_node i.order node) priority) node to_front) →
+    own ≡ with_list (without_node i.own node) ((node / i.cells) * i.priorities + priority) (joined_nodes (list_at (without_node i.own node) ((node / i.cells) * i.priorities + priority)) node to_front) →
     IsRanked (record { viewers = i.viewers; cells = i.cells; priorities = i.priorities; order = order; own = own })
 ranked_put i r priority node to_front order own d e at_in node_in a b =
     ranked_change i r order own d e (ap (λ (l : NodeLists). l.nodes) a) (ap (λ (l : NodeLists). l.nodes) b)
-    (ap (λ (l : NodeLists). length l.lists) a ∙ length-set (map (λ xs. without xs node) i.order.lists) priority (joined (list_at (without_node i.order node) priority) node to_front) ∙ order_long)
-    (ap (λ (l : NodeLists). length l.lists) b ∙ length-set (map (λ xs. without xs node) i.own.lists) index (joined (list_at (without_node i.own node) index) node to_front) ∙ own_long)
+    (ap (λ (l : NodeLists). length l.lists) a ∙ length-set (map (λ xs. without xs node) i.order.lists) priority (joined_nodes (list_at (without_node i.order node) priority) node to_front) ∙ order_long)
+    (ap (λ (l : NodeLists). length l.lists) b ∙ length-set (map (λ xs. without xs node) i.own.lists) index (joined_nodes (list_at (without_node i.own node) index) node to_front) ∙ own_long)
     (subst (λ (l : NodeLists). AreOwn i.viewers i.cells i.priorities l own) (sym a)
-    (subst (λ (l : NodeLists). AreOwn i.viewers i.cells i.priorities (with_list (without_node i.order node) priority (joined (list_at (without_node i.order node) priority) node to_front)) l) (sym b)
+    (subst (λ (l : NodeLists). AreOwn i.viewers i.cells i.priorities (with_list (without_node i.order node) priority (joined_nodes (list_at (without_node i.order node) priority) node to_front)) l) (sym b)
     (own_put i.viewers i.cells i.priorities (without_node i.order node) (without_node i.own node) node priority to_front (own_without i.viewers i.cells i.priorities i.order i.own node r.own)
     at_in owner (let long = r.order_lists in let same = order_long in omega arith) (subst (λ (n : ℕ). index < n) (sym (own_long ∙ r.own_lists ∙ mul_comm i.viewers i.priorities)) (mul-add-lt (node / i.cells) i.priorities priority i.viewers owner at_in)))))
   where

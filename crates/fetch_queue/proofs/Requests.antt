@@ -7,7 +7,7 @@ use Rattle.std.proofs.lemmas.Nat.{div-mul-add, mod-mul-add, div-add-mod'}
 use Rattle.ix_links.specs.NodeList.{without}
 use Rattle.fetch_queue.specs.declared.request.Request.{Request}
 use Rattle.fetch_queue.specs.Queue as queue
-use Rattle.fetch_queue.specs.Ranking.{joined}
+use Rattle.fetch_queue.specs.Ranking.{joined_nodes}
 use Rattle.fetch_queue.specs.Requests.{request_of, requests_of}
 use Rattle.fetch_queue.proofs.Filters.{flat}
 
@@ -46,9 +46,9 @@ pub requests-without : (cells : ℕ) (xs : List ℕ) (node : ℕ) → requests_o
 requests-without cells xs node =
     map-filter (request_of cells) (λ y. not (node == y)) (λ r. not (queue.same (request_of cells node) r)) (λ x. ap (λ (b : Bool). not b) (same_nodes cells node x)) xs
 
-pub requests-joined : (cells : ℕ) (xs : List ℕ) (node : ℕ) (to_front : Bool) → requests_of cells (joined xs node to_front) ≡ queue.joined (requests_of cells xs) (request_of cells node) to_front
-requests-joined cells xs node true = refl
-requests-joined cells xs node false = map-append (request_of cells) xs (node ∷ [])
+pub requests-joined_nodes : (cells : ℕ) (xs : List ℕ) (node : ℕ) (to_front : Bool) → requests_of cells (joined_nodes xs node to_front) ≡ queue.joined (requests_of cells xs) (request_of cells node) to_front
+requests-joined_nodes cells xs node true = refl
+requests-joined_nodes cells xs node false = map-append (request_of cells) xs (node ∷ [])
 
 -- the lists of requests, each without the one
 pub rows-without : (cells : ℕ) (ls : List (List ℕ)) (node : ℕ) →

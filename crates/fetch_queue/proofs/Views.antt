@@ -11,12 +11,12 @@ use Rattle.ix_links.proofs.Membership.{without_none}
 use Rattle.ix_links.proofs.Rows.{row_without, length-without}
 use Rattle.fetch_queue.specs.declared.request.Request.{Request}
 use Rattle.fetch_queue.specs.Queue as queue
-use Rattle.fetch_queue.specs.Ranking.{Ranking, ranked_nodes, waiting_nodes, all_nodes, with_order, joined, put_node}
+use Rattle.fetch_queue.specs.Ranking.{Ranking, ranked_nodes, waiting_nodes, all_nodes, with_order, joined_nodes, put_node}
 use Rattle.fetch_queue.specs.Requests.{request_of, requests_of}
 use Rattle.fetch_queue.specs.Queues.{queue_of_ranking, IsBounded}
 use Rattle.fetch_queue.specs.declared.queues.Queues.TheInside.{Inside}
 use Rattle.fetch_queue.proofs.Filters.{flat}
-use Rattle.fetch_queue.proofs.Requests.{map-flat, requests-without, requests-joined, rows-without}
+use Rattle.fetch_queue.proofs.Requests.{map-flat, requests-without, requests-joined_nodes, rows-without}
 
 abbrev view : ℕ → ℕ → ℕ → List (List Request) → List Request → queue.Queue
 view viewers cells bound rows behind = record { viewers = viewers; cells = cells; bound = bound; lists = rows; prefetch = behind }
@@ -34,20 +34,20 @@ dropped_view r bound node =
     (ap (λ (xs : List ℕ). requests_of r.cells xs) (row_without r.order.lists r.priorities node) ∙ requests-without r.cells (list_at r.order r.priorities) node)
 
 pub added_view : (r : Ranking) (bound priority node : ℕ) (to_front : Bool) → priority < r.priorities →
-    queue_of_ranking (with_order r (with_list r.order priority (joined (list_at r.order priority) node to_front))) bound ≡ queue.added (queue_of_ranking r bound) (request_of r.cells node) priority to_front
+    queue_of_ranking (with_order r (with_list r.order priority (joined_nodes (list_at r.order priority) node to_front))) bound ≡ queue.added (queue_of_ranking r bound) (request_of r.cells node) priority to_front
 added_view r bound priority node to_front h =
-    ap (λ (rows : List (List Request)). view r.viewers r.cells bound rows (requests_of r.cells (get_or (set r.order.lists priority (joined (list_at r.order priority) node to_front)) r.priorities [])))
-    (ap (λ (ls : List (List ℕ)). map (requests_of r.cells) ls) (take-set-lt r.priorities r.order.lists priority (joined (list_at r.order priority) node to_front) h)
-    ∙ map-set (requests_of r.cells) (take r.priorities r.order.lists) priority (joined (list_at r.order priority) node to_front)
+    ap (λ (rows : List (List Request)). view r.viewers r.cells bound rows (requests_of r.cells (get_or (set r.order.lists priority (joined_nodes (list_at r.order priority) node to_front)) r.priorities [])))
+    (ap (λ (ls : List (List ℕ)). map (requests_of r.cells) ls) (take-set-lt r.priorities r.order.lists priority (joined_nodes (list_at r.order priority) node to_front) h)
+    ∙ map-set (requests_of r.cells) (take r.priorities r.order.lists) priority (joined_nodes (list_at r.order priority) node to_front)
     ∙ ap (λ (rs : List Request). set (map (requests_of r.cells) (take r.priorities r.order.lists)) priority rs)
-    (requests-joined r.cells (list_at r.order priority) node to_front
+    (requests-joined_nodes r.cells (list_at r.order priority) node to_front
     ∙ ap (λ (rs : List Request). queue.joined rs (request_of r.cells node) to_front)
     (ap (λ (xs : List ℕ). requests_of r.cells xs) (sym (get_or-take r.priorities r.order.lists priority [] h)) ∙ sym (row_requests r.cells (take r.priorities r.order.lists) priority))))
     ∙ ap (λ (rs : List Request). view r.viewers r.cells bound (set (map (requests_of r.cells) (take r.priorities r.order.lists)) priority (queue.joined (get_or (map (requests_of r.cells) (take r.priorities r.order.lists)) priority []) (request_of r.cells node) to_front)) rs)
-    (ap (λ (xs : List ℕ). requests_of r.cells xs) (get_or-set_other r.order.lists priority r.priorities (joined (list_at r.order priority) node to_front) [] (λ e. absurd (omega arith))))
+    (ap (λ (xs : List ℕ). requests_of r.cells xs) (get_or-set_other r.order.lists priority r.priorities (joined_nodes (list_at r.order priority) node to_front) [] (λ e. absurd (omega arith))))
 
 pub put_view : (r : Ranking) (bound priority node : ℕ) (to_front : Bool) → priority < r.priorities →
-    queue_of_ranking (put_node r priority node to_front) bound ≡ queue.put_in (queue_of_ranking r bound) (request_of r.cells node) priority to_front
+    queue_of_ranking (put_node r priority node to_front) bound ≡ queue.put_request (queue_of_ranking r bound) (request_of r.cells node) priority to_front
 put_view r bound priority node to_front h =
     added_view (with_order r (without_node r.order node)) bound priority node to_front h
     ∙ ap (λ (q : queue.Queue). queue.added q (request_of r.cells node) priority to_front) (dropped_view r bound node)
@@ -78,7 +78,7 @@ waiting_removed r node = row_without r.order.lists r.priorities node
 
 pub waiting_put : (r : Ranking) (priority node : ℕ) (to_front : Bool) → priority < r.priorities → waiting_nodes (put_node r priority node to_front) ≡ without (waiting_nodes r) node
 waiting_put r priority node to_front h =
-    get_or-set_other (map (λ xs. without xs node) r.order.lists) priority r.priorities (joined (list_at (without_node r.order node) priority) node to_front) [] (λ e. absurd (omega arith))
+    get_or-set_other (map (λ xs. without xs node) r.order.lists) priority r.priorities (joined_nodes (list_at (without_node r.order node) priority) node to_front) [] (λ e. absurd (omega arith))
     ∙ row_without r.order.lists r.priorities node
 
 pub fewer : (xs : List ℕ) (node : ℕ) (b : Bool) → is_distinct xs ≡ true → b ≡ contains xs node → length (without xs node) + bool_byte b ≡ length xs

@@ -11,8 +11,8 @@ pub record Queue : Type 0 where
   pub lists : List (List Request)
   pub prefetch : List Request
 
-abbrev pub opening : ℕ → ℕ → ℕ → ℕ → Queue
-opening viewers cells priorities bound =
+abbrev pub opening_queue : ℕ → ℕ → ℕ → ℕ → Queue
+opening_queue viewers cells priorities bound =
     record { viewers = viewers; cells = cells; bound = bound; lists = replicate priorities []; prefetch = [] }
 
 -- whether two requests are the same pair
@@ -42,8 +42,8 @@ abbrev pub pair : ℕ → ℕ → Request
 pair viewer cell = record { viewer = viewer; cell = cell }
 
 -- the pair is moved to the front or to the back of a priority
-abbrev pub put_in : Queue → Request → ℕ → Bool → Queue
-put_in q r priority to_front = added (dropped q r) r priority to_front
+abbrev pub put_request : Queue → Request → ℕ → Bool → Queue
+put_request q r priority to_front = added (dropped q r) r priority to_front
 
 -- the head of the first priority that isn't empty, then of the prefetch list
 abbrev pub next_request : Queue → Option Request

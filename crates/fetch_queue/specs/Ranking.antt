@@ -34,14 +34,14 @@ abbrev pub with_order : Ranking → NodeLists → Ranking
 with_order r order = record { viewers = r.viewers; cells = r.cells; priorities = r.priorities; order = order }
 
 -- a node at the front or at the back of a list
-abbrev pub joined : List ℕ → ℕ → Bool → List ℕ
-joined nodes node true = node ∷ nodes
-joined nodes node false = nodes ++ node ∷ []
+abbrev pub joined_nodes : List ℕ → ℕ → Bool → List ℕ
+joined_nodes nodes node true = node ∷ nodes
+joined_nodes nodes node false = nodes ++ node ∷ []
 
 -- the node is taken out wherever it stands, and put into a priority
 abbrev pub put_node : Ranking → ℕ → ℕ → Bool → Ranking
 put_node r priority node to_front =
-    with_order r (with_list (without_node r.order node) priority (joined (list_at (without_node r.order node) priority) node to_front))
+    with_order r (with_list (without_node r.order node) priority (joined_nodes (list_at (without_node r.order node) priority) node to_front))
 
 -- the viewer's first node went to the back of the prefetch list
 pub record MovesFirst (old new : Ranking) (viewer : ℕ) : Type 0 where
@@ -62,9 +62,9 @@ pub record MovesNone (old new : Ranking) (viewer : ℕ) : Type 0 where
   pub none : own_of old.cells viewer (ranked_nodes old) ≡ []
   pub unchanged : new ≡ old
 
-abbrev pub Moves : Bool → Ranking → Ranking → ℕ → Type 0
-Moves true old new viewer = MovesFirst old new viewer
-Moves false old new viewer = MovesNone old new viewer
+abbrev pub MovesNodes : Bool → Ranking → Ranking → ℕ → Type 0
+MovesNodes true old new viewer = MovesFirst old new viewer
+MovesNodes false old new viewer = MovesNone old new viewer
 
 -- the prefetch list lost its first node, and nothing else changed
 pub record DropsFirst (old new : Ranking) : Type 0 where

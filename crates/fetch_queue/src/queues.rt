@@ -1,5 +1,5 @@
 ghost use Rattle.std.specs.Prelude.{◌≡◌, ℕ, ◌+◌, ◌*◌, ◌^◌, ◌<◌, ◌≤◌, List, length, IfOk, IfSome};
-ghost use Rattle.fetch_queue.specs.Queue.{Queue, opening, pair, put_in, next_request, without_next, of_viewer, cleared, IsRequest};
+ghost use Rattle.fetch_queue.specs.Queue.{Queue, opening_queue, pair, put_request, next_request, without_next, of_viewer, cleared, IsRequest};
 
 use crate::ranks::Ranks;
 use crate::request::Request;
@@ -50,7 +50,7 @@ impl Queues {
         requires some_priorities { 1 ≤ priorities }
         requires few_priorities { priorities ≤ 8 }
         requires few_waiting { prefetch ≤ 4096 }
-        ensures { IfOk result (λ queues. queues ≡ opening viewers cells priorities prefetch) }
+        ensures { IfOk result (λ queues. queues ≡ opening_queue viewers cells priorities prefetch) }
     {
         Ok(Queues {
             ranks: Ranks::new(alloc, viewers, cells, u32::from(priorities))?,
@@ -59,13 +59,34 @@ impl Queues {
         })
     }
 
+    /// How many viewers there are.
+    pub fn viewers(&self) -> u32
+        ensures { result ≡ self.now.viewers }
+    {
+        self.ranks.viewers()
+    }
+
+    /// How many cells there are.
+    pub fn cells(&self) -> u32
+        ensures { result ≡ self.now.cells }
+    {
+        self.ranks.cells()
+    }
+
+    /// How many priorities there are.
+    pub fn priorities(&self) -> u8
+        ensures { result ≡ length self.now.lists }
+    {
+        self.ranks.priorities() as u8
+    }
+
     /// Puts a pair at the front or at the back of a priority, and takes it out of wherever it stood. Takes a fixed
     /// number of steps.
     pub fn put(&mut self, viewer: u32, cell: u32, priority: u8, to_front: bool)
         requires viewer_in_range { viewer < self.old.viewers }
         requires cell_in_range { cell < self.old.cells }
         requires priority_in_range { priority < length self.old.lists }
-        ensures { self.new ≡ put_in self.old (pair viewer cell) priority to_front }
+        ensures { self.new ≡ put_request self.old (pair viewer cell) priority to_front }
     {
         let node = self.ranks.node(viewer, cell);
         self.waiting -= u32::from(self.ranks.is_waiting(node));
@@ -111,26 +132,32 @@ mod tests {
     use super::*;
     use std::test::Fail;
 
+    // Of a prefetch list with so many places: what comes after another viewer's request.
+    const ROWS: [(u32, bool, Option<Request>); 2] = [
+        (4, false, Some(Request { viewer: 0, cell: 3 })),
+        (0, true, None),
+    ];
+
     #[test]
-    fn a_cleared_request_comes_last(rt: HostRuntime) -> Result<(), Fail> {
-        let mut queues = Queues::new(rt.alloc(), 2, 8, 2, 4)?;
-        queues.put(0, 3, 0, false);
-        queues.put(1, 3, 1, false);
-        assert_eq!(rt; queues.clear(0), 1);
-        assert_eq!(rt; queues.take(), Some(Request { viewer: 1, cell: 3 }));
-        assert_eq!(rt; queues.take(), Some(Request { viewer: 0, cell: 3 }));
-        assert_eq!(rt; queues.take(), None);
+    fn a_cleared_request_comes_last_or_is_dropped(rt: HostRuntime) -> Result<(), Fail> {
+        for (prefetch, to_front, last) in ROWS {
+            let mut queues = Queues::new(rt.alloc(), 2, 8, 2, prefetch)?;
+            queues.put(0, 3, 0, false);
+            queues.put(1, 3, 1, to_front);
+            assert_eq!(rt; queues.clear(0), 1);
+            assert_eq!(rt; queues.take(), Some(Request { viewer: 1, cell: 3 }));
+            assert_eq!(rt; queues.take(), last);
+            assert_eq!(rt; queues.take(), None);
+        }
         Ok(())
     }
 
     #[test]
-    fn without_a_prefetch_list_it_is_dropped(rt: HostRuntime) -> Result<(), Fail> {
-        let mut queues = Queues::new(rt.alloc(), 2, 8, 2, 0)?;
-        queues.put(0, 3, 0, false);
-        queues.put(1, 3, 1, true);
-        assert_eq!(rt; queues.clear(0), 1);
-        assert_eq!(rt; queues.take(), Some(Request { viewer: 1, cell: 3 }));
-        assert_eq!(rt; queues.take(), None);
+    fn a_queue_tells_its_sizes(rt: HostRuntime) -> Result<(), Fail> {
+        let queues = Queues::new(rt.alloc(), 2, 8, 3, 4)?;
+        assert_eq!(rt; queues.viewers(), 2);
+        assert_eq!(rt; queues.cells(), 8);
+        assert_eq!(rt; queues.priorities(), 3);
         Ok(())
     }
 }

@@ -1,7 +1,7 @@
 ghost use Rattle.std.specs.Prelude.{◌≡◌, ℕ, ◌+◌, ◌*◌, ◌^◌, ◌<◌, ◌≤◌, true, false, List, [], ◌∷◌, ◌++◌, length, replicate, IsTrue, IfOk, IfSome, ◌↔◌, slice_get};
 ghost use Rattle.ix_links.specs.NodeList.{contains, is_distinct, first};
 ghost use Rattle.ix_links.specs.NodeLists.{NodeLists, list_at, with_list, without_node, is_linked, IsDisjoint};
-ghost use Rattle.fetch_queue.specs.Ranking.{Ranking, own_of, ranked_nodes, waiting_nodes, all_nodes, with_order, joined, put_node, Moves, DropsFirst};
+ghost use Rattle.fetch_queue.specs.Ranking.{Ranking, own_of, ranked_nodes, waiting_nodes, all_nodes, with_order, joined_nodes, put_node, MovesNodes, DropsFirst};
 ghost use Rattle.fetch_queue.specs.Requests.{request_of};
 
 use crate::request::Request;
@@ -57,6 +57,29 @@ impl Ranks {
             order: Links::new(alloc, nodes, priorities + 1)?,
             own: Links::new(alloc, nodes, viewers * priorities)?,
         })
+    }
+
+    /// How many viewers there are.
+    pub(crate) fn viewers(&self) -> u32
+        ensures { result ≡ self.now.viewers }
+    {
+        self.viewers
+    }
+
+    /// How many cells there are.
+    pub(crate) fn cells(&self) -> u32
+        ensures { result ≡ self.now.cells }
+    {
+        self.cells
+    }
+
+    /// How many priorities there are. One list more stands in the order.
+    pub(crate) fn priorities(&self) -> u32
+        ensures count { result ≡ self.now.priorities }
+        ensures few { result ≤ 8 }
+        ensures lists { length self.now.order.lists ≡ result + 1 }
+    {
+        self.priorities
     }
 
     /// The node of a pair.
@@ -142,7 +165,7 @@ impl Ranks {
     /// Moves a viewer's first node to the back of the prefetch list. False where the viewer has none.
     pub(crate) fn move_first(&mut self, viewer: u32) -> bool
         requires { viewer < self.old.viewers }
-        ensures { Moves result self.old self.new viewer }
+        ensures { MovesNodes result self.old self.new viewer }
     {
         let Some(node) = self.first_of(viewer) else {
             return false;
@@ -178,7 +201,7 @@ fn put_into(links: &mut Links, list: u32, node: u32, to_front: bool)
     requires list_in_range { list < length links.old.lists }
     requires node_in_range { node < links.old.nodes }
     requires disjoint { IsDisjoint links.old }
-    ensures put { links.new ≡ with_list (without_node links.old node) list (joined (list_at (without_node links.old node) list) node to_front) }
+    ensures put { links.new ≡ with_list (without_node links.old node) list (joined_nodes (list_at (without_node links.old node) list) node to_front) }
     ensures disjoint { IsDisjoint links.new }
 {
     take_out(links, node);

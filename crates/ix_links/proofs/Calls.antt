@@ -6,7 +6,7 @@ use Rattle.std.proofs.lemmas.Bool.{eq-eqb, ne_eqb, cases_Bool}
 use Rattle.std.proofs.lemmas.List.{set-get_or, get_or_default}
 use Rattle.ix_links.specs.NodeList.{contains, without, is_distinct, first, rest}
 use Rattle.ix_links.specs.NodeLists.{NodeLists, list_at, with_list, without_node, is_linked, IsDisjoint}
-use Rattle.ix_links.specs.Ring.{walks, is_owner, IsLinked}
+use Rattle.ix_links.specs.Ring.{walks, owns_node, IsLinked}
 use Rattle.ix_links.proofs.Membership.{contains_head, contains-without}
 use Rattle.ix_links.proofs.Paths.{IsPath, last_or, path_at}
 use Rattle.ix_links.proofs.Rows.{row_free, row_free_from, Found, row_found, row_within, row_without, row_without_first, position_is, position_none}
@@ -134,7 +134,7 @@ pub list_of_is : {nodes count : ℕ} {after before : List ℕ} {owners : List (O
     (node : ℕ) → get_or owners node None ≡ position (λ xs. contains xs node) ls
 list_of_is {nodes} {count} {after} {before} {owners} {ls} l node = by_owner (get_or owners node None) (λ k. l.owned k node)
   where
-    by_owner : (o : Option ℕ) → ((k : ℕ) → contains (get_or ls k []) node ≡ is_owner o k) → o ≡ position (λ xs. contains xs node) ls
+    by_owner : (o : Option ℕ) → ((k : ℕ) → contains (get_or ls k []) node ≡ owns_node o k) → o ≡ position (λ xs. contains xs node) ls
     by_owner None owned = sym (position_none ls node owned)
     by_owner (Some j) owned =
         let has : contains (get_or ls j []) node ≡ true = owned j ∙ eq-eqb j j refl in

@@ -5,7 +5,7 @@ use Rattle.std.specs.Prelude.{◌==◌, Option, None, Some, nat_lt, slice_index,
 use Rattle.std.proofs.lemmas.Bool.{eq-eqb, ne_eqb, cases_eq, cases_Bool, lt-ltb, le-ltb}
 use Rattle.std.proofs.lemmas.List.{length-map}
 use Rattle.ix_links.specs.NodeList.{contains, without, is_distinct, first}
-use Rattle.ix_links.specs.Ring.{is_owner, IsLinked}
+use Rattle.ix_links.specs.Ring.{owns_node, IsLinked}
 use Rattle.ix_links.proofs.Membership.{Parted, part_at, contains_head, contains_later, contains-append_right, contains-without, distinct_middle, without_none, without_at}
 use Rattle.ix_links.proofs.Paths.{IsPath, leads_from_path, last_or, first_or, path_same, path_at, path_middle, IsTakenBetween, take_path}
 use Rattle.ix_links.proofs.Rows.{row_within, row_without, distinct-without}
@@ -104,11 +104,11 @@ linked_take {nodes} {count} {after} {before} {owners} {ls} {list} {node} l has t
     new_owner : get_or (set owners node None) node None ≡ None
     new_owner = get_or-set_same owners node None None (subst (λ v. node < v) (sym l.long_owners) (linked_within l list node has))
 
-    owned : (k x : ℕ) → contains (get_or (map (λ xs. without xs node) ls) k []) x ≡ is_owner (get_or (set owners node None) x None) k
+    owned : (k x : ℕ) → contains (get_or (map (λ xs. without xs node) ls) k []) x ≡ owns_node (get_or (set owners node None) x None) k
     owned k x = ap (λ (zs : List ℕ). contains zs x) (row_without ls k node) ∙ contains-without (get_or ls k []) node x ∙
-        elim (cases_eq x node) as (λ _. (not (node == x) && contains (get_or ls k []) x) ≡ is_owner (get_or (set owners node None) x None) k) [
-          | inl is ↦ ap (λ (b : Bool). not b && contains (get_or ls k []) x) (eq-eqb node x (sym is)) ∙ sym (ap (λ (v : ℕ). is_owner (get_or (set owners node None) v None) k) is ∙ ap (λ o. is_owner o k) new_owner)
-          | inr other ↦ ap (λ (b : Bool). not b && contains (get_or ls k []) x) (ne_eqb node x (λ e. other (sym e))) ∙ l.owned k x ∙ sym (ap (λ o. is_owner o k) (get_or-set_other owners node x None None other))
+        elim (cases_eq x node) as (λ _. (not (node == x) && contains (get_or ls k []) x) ≡ owns_node (get_or (set owners node None) x None) k) [
+          | inl is ↦ ap (λ (b : Bool). not b && contains (get_or ls k []) x) (eq-eqb node x (sym is)) ∙ sym (ap (λ (v : ℕ). owns_node (get_or (set owners node None) v None) k) is ∙ ap (λ o. owns_node o k) new_owner)
+          | inr other ↦ ap (λ (b : Bool). not b && contains (get_or ls k []) x) (ne_eqb node x (λ e. other (sym e))) ∙ l.owned k x ∙ sym (ap (λ o. owns_node o k) (get_or-set_other owners node x None None other))
         ]
 
 -- ---- the node that a link names

@@ -8,7 +8,7 @@ use Rattle.std.proofs.lemmas.List.FromFn.{fill_by_all, length-range_with_len, ge
 use Rattle.std.proofs.lemmas.Map.Steps.{length-le_from_distinct_below}
 use Rattle.ix_links.specs.NodeList.{contains, is_distinct}
 use Rattle.ix_links.specs.NodeLists.{IsDisjoint}
-use Rattle.ix_links.specs.Ring.{leads, walk, walks, is_owner, IsLinked}
+use Rattle.ix_links.specs.Ring.{leads, walk, walks, owns_node, IsLinked}
 use Rattle.ix_links.proofs.Membership.{apart_by, contains_head, contains_later, contains-between, distinct-cons, distinct-between}
 use Rattle.ix_links.proofs.Paths.{IsPath, path_from_leads, leads_from_path, last_or, first_or, last_or_in, first_or_in, path_same, walk_path, IsPutBetween, put_path}
 use Rattle.ix_links.proofs.Rows.{IsDistinct-from_distinct}
@@ -25,7 +25,7 @@ linked_within {nodes} {count} {after} {before} {owners} {ls} l list node h =
       | inl below ↦ below
       | inr past ↦
           let none : get_or owners node None ≡ None = get_or_past owners node None (subst (λ v. v ≤ node) (sym l.long_owners) past) in
-          absurd (false≢true (sym (ap (λ o. is_owner o list) none) ∙ sym (l.owned list node) ∙ h))
+          absurd (false≢true (sym (ap (λ o. owns_node o list) none) ∙ sym (l.owned list node) ∙ h))
     ]
 
 pub linked_apart : {nodes count : ℕ} {after before : List ℕ} {owners : List (Option ℕ)} {ls : List (List ℕ)} → IsLinked nodes count after before owners ls →
@@ -33,7 +33,7 @@ pub linked_apart : {nodes count : ℕ} {after before : List ℕ} {owners : List 
 linked_apart {nodes} {count} {after} {before} {owners} {ls} l list other node h g =
     owner_of_both (get_or owners node None) list other (sym (l.owned list node) ∙ h) (sym (l.owned other node) ∙ g)
   where
-    owner_of_both : (o : Option ℕ) (j k : ℕ) → is_owner o j ≡ true → is_owner o k ≡ true → j ≡ k
+    owner_of_both : (o : Option ℕ) (j k : ℕ) → owns_node o j ≡ true → owns_node o k ≡ true → j ≡ k
     owner_of_both None j k p q = absurd (false≢true p)
     owner_of_both (Some i) j k p q = sym (eqb-true i j p) ∙ eqb-true i k q
 
@@ -124,8 +124,8 @@ linked_new nodes count few = record {
       subst (λ (xs : List ℕ). leads (range_with_len 0 (nodes + count)) (range_with_len 0 (nodes + count)) (nodes + list) xs (nodes + list) ≡ true) (sym (empty list))
       (leads_from_path (range_with_len 0 (nodes + count)) (range_with_len 0 (nodes + count)) (nodes + list) [] (nodes + list) (omega arith, omega arith));
   owned = λ list node.
-      subst (λ (xs : List ℕ). contains xs node ≡ is_owner (get_or (replicate {A = Option ℕ} nodes None) node None) list) (sym (empty list))
-      (sym (ap (λ o. is_owner o list) (unowned node)));
+      subst (λ (xs : List ℕ). contains xs node ≡ owns_node (get_or (replicate {A = Option ℕ} nodes None) node None) list) (sym (empty list))
+      (sym (ap (λ o. owns_node o list) (unowned node)));
   once = λ list. subst (λ (xs : List ℕ). is_distinct xs ≡ true) (sym (empty list)) refl;
 }
   where
@@ -243,17 +243,17 @@ linked_put {nodes} {count} {after} {before} {owners} {ls} {list} {node} {place} 
     old_owner : (x : ℕ) → x ≢ node → get_or (set owners node (Some list)) x None ≡ get_or owners x None
     old_owner x ne = get_or-set_other owners node x (Some list) None ne
 
-    owned : (k x : ℕ) → contains (get_or (set ls list (xs ++ node ∷ ys)) k []) x ≡ is_owner (get_or (set owners node (Some list)) x None) k
-    owned k x = elim (cases_eq k list) as (λ _. contains (get_or (set ls list (xs ++ node ∷ ys)) k []) x ≡ is_owner (get_or (set owners node (Some list)) x None) k) [
+    owned : (k x : ℕ) → contains (get_or (set ls list (xs ++ node ∷ ys)) k []) x ≡ owns_node (get_or (set owners node (Some list)) x None) k
+    owned k x = elim (cases_eq k list) as (λ _. contains (get_or (set ls list (xs ++ node ∷ ys)) k []) x ≡ owns_node (get_or (set owners node (Some list)) x None) k) [
       | inl e ↦ ap (λ (j : ℕ). contains (get_or (set ls list (xs ++ node ∷ ys)) j []) x) e ∙ ap (λ (zs : List ℕ). contains zs x) here ∙ contains-between xs ys node x ∙
-          elim (cases_eq x node) as (λ _. ((x == node) || contains (xs ++ ys) x) ≡ is_owner (get_or (set owners node (Some list)) x None) k) [
-            | inl is ↦ or_left (x == node) (contains (xs ++ ys) x) (eq-eqb x node is) ∙ sym (ap (λ (v : ℕ). is_owner (get_or (set owners node (Some list)) v None) k) is ∙ ap (λ o. is_owner o k) new_owner ∙ eq-eqb list k (sym e))
-            | inr other ↦ ap (λ (b : Bool). b || contains (xs ++ ys) x) (ne_eqb x node other) ∙ ap (λ (zs : List ℕ). contains zs x) (sym w.parts) ∙ l.owned list x ∙ ap (λ (j : ℕ). is_owner (get_or owners x None) j) (sym e) ∙ sym (ap (λ o. is_owner o k) (old_owner x other))
+          elim (cases_eq x node) as (λ _. ((x == node) || contains (xs ++ ys) x) ≡ owns_node (get_or (set owners node (Some list)) x None) k) [
+            | inl is ↦ or_left (x == node) (contains (xs ++ ys) x) (eq-eqb x node is) ∙ sym (ap (λ (v : ℕ). owns_node (get_or (set owners node (Some list)) v None) k) is ∙ ap (λ o. owns_node o k) new_owner ∙ eq-eqb list k (sym e))
+            | inr other ↦ ap (λ (b : Bool). b || contains (xs ++ ys) x) (ne_eqb x node other) ∙ ap (λ (zs : List ℕ). contains zs x) (sym w.parts) ∙ l.owned list x ∙ ap (λ (j : ℕ). owns_node (get_or owners x None) j) (sym e) ∙ sym (ap (λ o. owns_node o k) (old_owner x other))
           ]
       | inr ne ↦ ap (λ (zs : List ℕ). contains zs x) (away k ne) ∙
-          elim (cases_eq x node) as (λ _. contains (get_or ls k []) x ≡ is_owner (get_or (set owners node (Some list)) x None) k) [
-            | inl is ↦ ap (λ (v : ℕ). contains (get_or ls k []) v) is ∙ w.free k ∙ sym (ap (λ (v : ℕ). is_owner (get_or (set owners node (Some list)) v None) k) is ∙ ap (λ o. is_owner o k) new_owner ∙ ne_eqb list k (λ same. ne (sym same)))
-            | inr other ↦ l.owned k x ∙ sym (ap (λ o. is_owner o k) (old_owner x other))
+          elim (cases_eq x node) as (λ _. contains (get_or ls k []) x ≡ owns_node (get_or (set owners node (Some list)) x None) k) [
+            | inl is ↦ ap (λ (v : ℕ). contains (get_or ls k []) v) is ∙ w.free k ∙ sym (ap (λ (v : ℕ). owns_node (get_or (set owners node (Some list)) v None) k) is ∙ ap (λ o. owns_node o k) new_owner ∙ ne_eqb list k (λ same. ne (sym same)))
+            | inr other ↦ l.owned k x ∙ sym (ap (λ o. owns_node o k) (old_owner x other))
           ]
     ]
 

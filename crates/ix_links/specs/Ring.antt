@@ -20,9 +20,9 @@ abbrev pub walks : List ℕ → ℕ → ℕ → List (List ℕ)
 walks after nodes count = map (λ list. walk after nodes nodes (slice_index after (nodes + list))) (range_with_len 0 count)
 
 -- whether this is the owner's list
-abbrev pub is_owner : Option ℕ → ℕ → Bool
-is_owner None list = false
-is_owner (Some owner) list = owner == list
+abbrev pub owns_node : Option ℕ → ℕ → Bool
+owns_node None list = false
+owns_node (Some owner) list = owner == list
 
 -- the links of each list are a ring through its head, and each node's owner is the list that it is in
 pub record IsLinked (nodes count : ℕ) (after before : List ℕ) (owners : List (Option ℕ)) (lists : List (List ℕ)) : Type 0 where
@@ -32,5 +32,5 @@ pub record IsLinked (nodes count : ℕ) (after before : List ℕ) (owners : List
   pub long_lists : length lists ≡ count
   pub few : nodes + count < 2 ^ 32
   pub ring : (list : ℕ) → list < count → leads after before (nodes + list) (slice_index_or lists list []) (nodes + list) ≡ true
-  pub owned : (list node : ℕ) → contains (slice_index_or lists list []) node ≡ is_owner (slice_index_or owners node None) list
+  pub owned : (list node : ℕ) → contains (slice_index_or lists list []) node ≡ owns_node (slice_index_or owners node None) list
   pub once : (list : ℕ) → is_distinct (slice_index_or lists list []) ≡ true

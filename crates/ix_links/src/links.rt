@@ -118,6 +118,13 @@ impl Links {
         self.node_at(self.rings.after[node as usize])
     }
 
+    /// How many nodes there are.
+    pub fn nodes(&self) -> u32
+        ensures { result ≡ self.now.nodes }
+    {
+        self.nodes
+    }
+
     /// The list that a node is in. None exactly where it is in none.
     pub fn list_of(&self, node: u32) -> Option<u32>
         requires { node < self.now.nodes }
@@ -136,37 +143,5 @@ impl Links {
         } else {
             None
         }
-    }
-}
-
-#[cfg(test)]
-mod tests {
-    use super::*;
-    use std::test::Fail;
-
-    #[test]
-    fn a_removed_node_goes_to_another_list(rt: HostRuntime) -> Result<(), Fail> {
-        let mut links = Links::new(rt.alloc(), 4, 2)?;
-        links.push_back(0, 0);
-        links.push_back(0, 1);
-        links.push_back(0, 2);
-        links.remove(1);
-        assert_eq!(rt; links.next(0), Some(2));
-        links.push_front(1, 1);
-        assert_eq!(rt; links.list_of(1), Some(1));
-        assert_eq!(rt; links.list_of(3), None);
-        Ok(())
-    }
-
-    #[test]
-    fn the_front_is_popped_first(rt: HostRuntime) -> Result<(), Fail> {
-        let mut links = Links::new(rt.alloc(), 2, 1)?;
-        links.push_front(0, 1);
-        links.push_front(0, 0);
-        assert_eq!(rt; links.front(0), Some(0));
-        assert_eq!(rt; links.pop_front(0), Some(0));
-        assert_eq!(rt; links.front(0), Some(1));
-        assert_eq!(rt; links.next(1), None);
-        Ok(())
     }
 }

@@ -5,3 +5,8 @@ pub mod Moves
 pub mod Splits
 pub mod Joins
 pub mod Endings
+pub mod Places
+pub mod Standing
+pub mod Gathering
+pub mod Weights
+pub mod Taking

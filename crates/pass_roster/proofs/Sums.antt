@@ -1,8 +1,10 @@
 -- Sums over a list of views, and what stands at a place of a list.
-use Rattle.std.proofs.Common.{◌≡◌, ◌≢◌, ◌⊎◌, ℕ, zero, suc, ◌+◌, ◌*◌, ◌<◌, ◌≤◌, List, [], ◌∷◌, ◌++◌, length, set, sym, refl, ap, ◌∙◌, inl, inr, ⊎_elim, arith}
+use Rattle.std.proofs.Common.{◌≡◌, ◌≢◌, ◌⊎◌, ℕ, zero, suc, ◌+◌, ◌*◌, ◌<◌, ◌≤◌, Bool, cond, List, [], ◌∷◌, ◌++◌, length, map, set, sym, refl, ap, ◌∙◌, inl, inr, ⊎_elim, arith}
 use mathlib.Core.Option.{some, some-injective, some-ne-none}
 use lib.ListN.{get_elem?}
-use Rattle.pass_roster.specs.History.{total}
+use Rattle.std.specs.List.{count_by}
+use Rattle.std.proofs.lemmas.List.Sums.{sum_by-cons}
+use Rattle.pass_roster.specs.History.{total, flat}
 
 module _ {A : Type 0} where
   pub total_set : (f : A → ℕ) (l : List A) (i : ℕ) (a b : A) → get_elem? l i ≡ some a → total f (set l i b) + f a ≡ total f l + f b
@@ -13,6 +15,23 @@ module _ {A : Type 0} where
   pub total_snoc : (f : A → ℕ) (l : List A) (a : A) → total f (l ++ a ∷ []) ≡ total f l + f a
   total_snoc f [] a = omega arith
   total_snoc f (x ∷ xs) a = let h = total_snoc f xs a in omega arith
+
+  pub total_append : (f : A → ℕ) (xs ys : List A) → total f (xs ++ ys) ≡ total f xs + total f ys
+  total_append f [] ys = omega arith
+  total_append f (x ∷ xs) ys = let h = total_append f xs ys in omega arith
+
+  pub total_flat : (f : A → ℕ) (parts : List (List A)) → total f (flat parts) ≡ total (total f) parts
+  total_flat f [] = refl
+  total_flat f (part ∷ parts) = total_append f part (flat parts) ∙ ap (λ n. total f part + n) (total_flat f parts)
+
+  pub total_map : {B : Type 0} (f : B → ℕ) (g : A → B) (xs : List A) → total f (map g xs) ≡ total (λ x. f (g x)) xs
+  total_map f g [] = refl
+  total_map f g (x ∷ xs) = ap (λ n. f (g x) + n) (total_map f g xs)
+
+  -- a sum of ones is a count
+  pub total_counts : (p : A → Bool) (xs : List A) → total (λ x. cond (p x) 1 0) xs ≡ count_by p xs
+  total_counts p [] = refl
+  total_counts p (x ∷ xs) = ap (λ n. cond (p x) 1 0 + n) (total_counts p xs) ∙ sym (sum_by-cons (λ y. cond (p y) 1 0) x xs)
 
   pub total_one : (f : A → ℕ) (l : List A) (i : ℕ) (a : A) → get_elem? l i ≡ some a → f a ≤ total f l
   total_one f [] i a e = absurd (some-ne-none a (sym e))

@@ -17,3 +17,8 @@ entries_by by k = filter (λ e. by e == k)
 abbrev pub total : {A : Type 0} → (A → ℕ) → List A → ℕ
 total f [] = 0
 total f (x ∷ xs) = f x + total f xs
+
+-- lists one after another
+abbrev pub flat : {A : Type 0} → List (List A) → List A
+flat [] = []
+flat (xs ∷ rest) = xs ++ flat rest

@@ -1,11 +1,13 @@
 -- The laws of a roster, for views, entries and ended passes of any type.
-use Rattle.std.specs.Prelude.{◌≡◌, ◌≢◌, ◌↔◌, ℕ, ◌+◌, ◌<◌, ◌≤◌, List, [], ◌∷◌, ◌++◌, length, slice_set}
+use Rattle.std.specs.Prelude.{◌≡◌, ◌≢◌, ◌↔◌, ℕ, ◌+◌, ◌<◌, ◌≤◌, List, [], ◌∷◌, ◌++◌, length, map, slice_set}
 use mathlib.Core.Option.{some}
 use lib.ListN.{get_elem?}
-use Rattle.pass_roster.specs.History.{StartsWith}
+use Rattle.pass_roster.specs.History.{StartsWith, entries_by, total, flat}
 use Rattle.pass_roster.specs.Roster.{Passes, EachOut, Roster}
 use Rattle.pass_roster.specs.Steps.{GoesOn, IsSplit, IsJoin}
 use Rattle.pass_roster.specs.Ends.{AllJoined, IsAlone, IsWhole}
+use Rattle.pass_roster.specs.Works.{Works}
+use Rattle.pass_roster.specs.Phases.{TakesIn, TookIn, ArePhases, IsFirst, InPhases}
 
 module _ (D E X : Type 0) where
   -- a first pass that has seen and made nothing has the number 0, the only one drawn
@@ -53,3 +55,28 @@ module _ (D E X : Type 0) where
   AllJoinedIsAlone = (p : Passes D E X) (history : List E) (drawn : ℕ) (ended : List X) (views : List D) (id : ℕ) (v : D)
       → Roster p history drawn ended views → get_elem? views id ≡ some v → p.out v ≡ 1 → p.number v ≡ 0
       → AllJoined p v ↔ IsAlone p v
+
+  -- A whole history weighs what the first pass's entries and those of the passes that ended weigh.
+  abbrev pub WholeWeighs : Type 0
+  WholeWeighs = (p : Passes D E X) (weight : E → ℕ) (v : D) → IsWhole p v
+      → total weight (p.seen v) ≡ total (total weight) (p.mine v ∷ map p.ended_mine (p.ended v))
+
+  -- A pass at work goes on from where it came.
+  abbrev pub WorksCompose : Type 0
+  WorksCompose = (p : Passes D E X) (d w u : D) (own more : List E) → Works p d own w → Works p w more u → Works p d (own ++ more) u
+
+  -- A first pass that takes in the next of the passes that it split, which went to work then, has taken in one more.
+  abbrev pub JoinsTakeIn : Type 0
+  JoinsTakeIn = (p : Passes D E X) (k : ℕ) (d : D) (before : List (List E)) (own : List E) (child e v w : D) (x : X)
+      → TakesIn p k d before v → p.number child ≡ k + length before → p.seen child ≡ p.seen d → p.mine child ≡ [] → Works p child own e → TookIn p v e w x
+      → TakesIn p k d (before ++ own ∷ []) w
+
+  -- Where the first pass has seen a whole history, of phases and then of entries of its own alone, the part before these is by phases.
+  abbrev pub PhasesStand : Type 0
+  PhasesStand = (p : Passes D E X) (d w z : D) (phases : List (List (List E))) (closing : List E)
+      → IsFirst p d → ArePhases p d phases w → IsWhole p z → p.ended z ≡ p.ended w → p.seen z ≡ p.seen w ++ closing → entries_by p.by 0 closing ≡ closing → p.mine z ≡ p.mine w ++ closing
+      → p.drawn z ≡ p.drawn w → InPhases p.by 1 phases (p.seen w)
+
+-- A history by phases weighs what its passes' entries weigh.
+abbrev pub PhasesWeigh : (E : Type 0) → Type 0
+PhasesWeigh E = (by weight : E → ℕ) (k : ℕ) (phases : List (List (List E))) (history : List E) → InPhases by k phases history → total weight history ≡ total (total weight) (flat phases)

@@ -1,5 +1,5 @@
 // The laws of a roster. `D` is the view of a pass, `E` an entry and `X` a pass that ended.
-ghost use Rattle.pass_roster.specs.Laws.{HasRosterAtOpening, StepKeepsRoster, SplitKeepsRoster, SpentViewKeepsRoster, JoinKeepsRoster, LongestSeenIsWhole, AllJoinedIsWhole, AllJoinedIsAlone};
+ghost use Rattle.pass_roster.specs.Laws.{HasRosterAtOpening, StepKeepsRoster, SplitKeepsRoster, SpentViewKeepsRoster, JoinKeepsRoster, LongestSeenIsWhole, AllJoinedIsWhole, AllJoinedIsAlone, WholeWeighs, WorksCompose, JoinsTakeIn, PhasesStand, PhasesWeigh};
 
 /// A first pass, that has seen and made nothing, has a roster with the empty history.
 pub fn has_roster_at_opening<D, E, X>()
@@ -40,4 +40,29 @@ pub fn all_joined_is_whole<D, E, X>()
 /// The first pass knows by two numbers whether all others were joined.
 pub fn all_joined_is_alone<D, E, X>()
     ensures { AllJoinedIsAlone D E X }
+{}
+
+/// A whole history weighs what the entries of its passes weigh.
+pub fn whole_weighs<D, E, X>()
+    ensures { WholeWeighs D E X }
+{}
+
+/// A pass at work goes on from where it came.
+pub fn works_compose<D, E, X>()
+    ensures { WorksCompose D E X }
+{}
+
+/// A first pass that joins the next of the passes that it split has taken in one more.
+pub fn joins_take_in<D, E, X>()
+    ensures { JoinsTakeIn D E X }
+{}
+
+/// The history of a first pass that carried out phases, all of it seen, is by phases.
+pub fn phases_stand<D, E, X>()
+    ensures { PhasesStand D E X }
+{}
+
+/// A history by phases weighs what the entries of its passes weigh.
+pub fn phases_weigh<E>()
+    ensures { PhasesWeigh E }
 {}

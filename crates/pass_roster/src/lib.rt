@@ -7,7 +7,8 @@ mod laws;
 
 pub use laws::{
     all_joined_is_alone, all_joined_is_whole, has_roster_at_opening, join_keeps_roster,
-    longest_seen_is_whole, spent_view_keeps_roster, split_keeps_roster, step_keeps_roster,
+    joins_take_in, longest_seen_is_whole, phases_stand, phases_weigh, spent_view_keeps_roster,
+    split_keeps_roster, step_keeps_roster, whole_weighs, works_compose,
 };
 
 #[cfg(test)]

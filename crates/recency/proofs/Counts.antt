@@ -1,14 +1,14 @@
 -- How many slots are kept after one leaves.
-use Rattle.std.proofs.Common.{◌≡◌, ◌≢◌, ℕ, ◌+◌, ◌-◌, ◌<◌, ◌≤◌, ◌/◌, ◌^◌, inl, inr, Bool, true, false, List, [], ◌∷◌, length, get_or, refl, sym, ap, subst, ◌∙◌, arith}
+use Rattle.std.proofs.Common.{◌≡◌, ◌≢◌, ℕ, zero, suc, ◌+◌, ◌-◌, ◌<◌, ◌≤◌, ◌/◌, ◌^◌, inl, inr, ◌||◌, Bool, true, false, List, [], ◌∷◌, length, get_or, refl, sym, ap, subst, ◌∙◌, arith}
 use Rattle.std.specs.Prelude.{◌==◌, Option, None, Some}
-use Rattle.std.specs.Option.{option_eq}
+use Rattle.std.specs.Option.{option_eq, is_some}
 use Rattle.std.proofs.lemmas.Bool.{true≢false, false≢true, eqb-true, cases_Bool, false_from_ne_true}
-use Rattle.std.proofs.lemmas.List.{length-map}
+use Rattle.std.proofs.lemmas.List.{length-map, get_or_past}
 use Rattle.std.proofs.lemmas.List.Quantifiers.{position-Some}
 use Rattle.ix_links.specs.NodeList.{contains, without, is_distinct}
 use Rattle.ix_links.specs.NodeLists.{NodeLists, list_at, without_node, list_of_node, IsDisjoint}
 use Rattle.ix_links.proofs.Membership.{without_none}
-use Rattle.ix_links.proofs.Rows.{row_within, row_without, position_is, length-without}
+use Rattle.ix_links.proofs.Rows.{row_within, row_without, position_is, position_none, length-without}
 use Rattle.recency.specs.Recency.{IsCounted}
 
 -- the test whether a slot's list is kept
@@ -30,6 +30,23 @@ kept_test v slot d r b is test =
         let one : k ≡ 1 = eqb-true k 1 same in
         let found = position-Some (λ xs. contains xs slot) v.lists k [] (sym e) in
         true≢false (sym (subst (λ (j : ℕ). contains (get_or v.lists j []) slot ≡ true) one found.1) ∙ lacks))
+
+-- a slot is listed where it is in a list
+pub listed_test : (v : NodeLists) (slot : ℕ) (r : Option ℕ) → length v.lists ≡ 2 → r ≡ list_of_node v slot → is_some r ≡ (contains (list_at v 0) slot || contains (list_at v 1) slot)
+listed_test v slot r two is = choose (contains (list_at v 0) slot) (contains (list_at v 1) slot) refl refl
+  where
+    absent : (k : ℕ) → contains (list_at v 0) slot ≡ false → contains (list_at v 1) slot ≡ false → contains (get_or v.lists k []) slot ≡ false
+    absent zero cold kept = cold
+    absent (suc zero) cold kept = kept
+    absent (suc (suc k)) cold kept = ap (λ (xs : List ℕ). contains xs slot) (get_or_past v.lists (suc (suc k)) [] (omega (arith, two)))
+
+    below_one : (k : ℕ) → k < 1 → contains (list_at v 0) slot ≡ false → contains (get_or v.lists k []) slot ≡ false
+    below_one k lt cold = subst (λ (i : ℕ). contains (get_or v.lists i []) slot ≡ false) (let e : 0 ≡ k = omega (arith, lt) in e) cold
+
+    choose : (a b : Bool) → contains (list_at v 0) slot ≡ a → contains (list_at v 1) slot ≡ b → is_some r ≡ (contains (list_at v 0) slot || contains (list_at v 1) slot)
+    choose true b cold kept = ap is_some (is ∙ position_is v.lists 0 slot (omega (arith, two)) cold (λ k lt. absurd (omega (arith, lt)))) ∙ sym (ap (λ q. q || contains (list_at v 1) slot) cold)
+    choose false true cold kept = ap is_some (is ∙ position_is v.lists 1 slot (omega (arith, two)) kept (λ k lt. below_one k lt cold)) ∙ sym (ap (λ q. q || contains (list_at v 1) slot) cold ∙ kept)
+    choose false false cold kept = ap is_some (is ∙ position_none v.lists slot (λ k. absent k cold kept)) ∙ sym (ap (λ q. q || contains (list_at v 1) slot) cold ∙ kept)
 
 -- the counts after a slot leaves
 pub left_counted : (v w : NodeLists) (slot most kept less : ℕ) → w ≡ without_node v slot → IsDisjoint w →

@@ -8,7 +8,7 @@ use Rattle.ix_links.specs.NodeList.{contains, without, is_distinct}
 use Rattle.ix_links.specs.NodeLists.{NodeLists, list_at, IsDisjoint}
 use Rattle.ix_links.proofs.Membership.{contains-append, contains-append_none, contains-between, contains-without, contains_head, contains_later, distinct_head, distinct_tail, distinct-cons, distinct-between, Parted, part_at, without_at, distinct_middle}
 use Rattle.ix_links.proofs.Rows.{distinct-without, distinct-append}
-use Rattle.recency.specs.Order.{Order, is_listed, admitted, left, raised, cooled, bounded, touched, IsOrder}
+use Rattle.recency.specs.Order.{Order, is_listed, admitted, without_slot, promoted, cooled, bounded, touched, IsOrder}
 
 -- two disjoint lists are a sound order
 pub order_sound : (v : NodeLists) → IsDisjoint v → length (list_at v 1) ≤ v.nodes / 2 → IsOrder (record { slots = v.nodes; cold = list_at v 0; kept = list_at v 1 })
@@ -28,15 +28,15 @@ listed_joined o slot = sym (contains-append o.cold o.kept slot)
 pub contains-push : (xs : List ℕ) (n x : ℕ) → contains (xs ++ n ∷ []) x ≡ ((x == n) || contains xs x)
 contains-push xs n x = contains-between xs [] n x ∙ ap (λ (zs : List ℕ). (x == n) || contains zs x) (append-nil xs)
 
-pub left_joined : (o : Order) (slot : ℕ) → (left o slot).cold ++ (left o slot).kept ≡ without (o.cold ++ o.kept) slot
+pub left_joined : (o : Order) (slot : ℕ) → (without_slot o slot).cold ++ (without_slot o slot).kept ≡ without (o.cold ++ o.kept) slot
 left_joined o slot = sym (filter-append (λ y. not (slot == y)) o.cold o.kept)
 
-pub left_listed : (o : Order) (slot other : ℕ) → is_listed (left o slot) other ≡ (not (slot == other) && is_listed o other)
+pub left_listed : (o : Order) (slot other : ℕ) → is_listed (without_slot o slot) other ≡ (not (slot == other) && is_listed o other)
 left_listed o slot other =
-    listed_joined (left o slot) other ∙ ap (λ (zs : List ℕ). contains zs other) (left_joined o slot) ∙ contains-without (o.cold ++ o.kept) slot other
+    listed_joined (without_slot o slot) other ∙ ap (λ (zs : List ℕ). contains zs other) (left_joined o slot) ∙ contains-without (o.cold ++ o.kept) slot other
     ∙ ap (λ (b : Bool). not (slot == other) && b) (sym (listed_joined o other))
 
-pub raised_joined : (o : Order) (slot : ℕ) → (raised o slot).cold ++ (raised o slot).kept ≡ (o.cold ++ o.kept) ++ slot ∷ []
+pub raised_joined : (o : Order) (slot : ℕ) → (promoted o slot).cold ++ (promoted o slot).kept ≡ (o.cold ++ o.kept) ++ slot ∷ []
 raised_joined o slot = sym (append_assoc o.cold o.kept (slot ∷ []))
 
 pub cooled_joined : (o : Order) → (cooled o).cold ++ (cooled o).kept ≡ o.cold ++ o.kept
@@ -58,7 +58,7 @@ bounded_slots o =
 
 -- a touched slot is listed still, and so are the others
 pub touched_joined : (o : Order) (slot : ℕ) → (touched o slot).cold ++ (touched o slot).kept ≡ without (o.cold ++ o.kept) slot ++ slot ∷ []
-touched_joined o slot = bounded_joined (raised (left o slot) slot) ∙ raised_joined (left o slot) slot ∙ ap (λ (zs : List ℕ). zs ++ slot ∷ []) (left_joined o slot)
+touched_joined o slot = bounded_joined (promoted (without_slot o slot) slot) ∙ raised_joined (without_slot o slot) slot ∙ ap (λ (zs : List ℕ). zs ++ slot ∷ []) (left_joined o slot)
 
 pub touched_listed : (o : Order) (slot : ℕ) → is_listed o slot ≡ true → (other : ℕ) → is_listed (touched o slot) other ≡ is_listed o other
 touched_listed o slot listed other =
@@ -94,7 +94,7 @@ length-without_le (x ∷ xs) n =
       | inr other ↦ rw other (omega arith)
     ]
 
-pub left_sound : (o : Order) (slot : ℕ) → IsOrder o → IsOrder (left o slot)
+pub left_sound : (o : Order) (slot : ℕ) → IsOrder o → IsOrder (without_slot o slot)
 left_sound o slot s = record {
   within = λ other h. s.within other (kept_from (not (slot == other)) (is_listed o other) (sym (left_listed o slot other) ∙ h));
   once = subst (λ (zs : List ℕ). is_distinct zs ≡ true) (sym (left_joined o slot)) (distinct-without (o.cold ++ o.kept) slot s.once);
@@ -105,37 +105,37 @@ left_sound o slot s = record {
     kept_from true b h = h
     kept_from false b h = absurd (false≢true h)
 
-pub bounded_sound : (o : Order) (slot : ℕ) → IsOrder o → slot < o.slots → is_listed o slot ≡ false → IsOrder (bounded (raised o slot))
+pub bounded_sound : (o : Order) (slot : ℕ) → IsOrder o → slot < o.slots → is_listed o slot ≡ false → IsOrder (bounded (promoted o slot))
 bounded_sound o slot s within free = record {
-  within = λ other h. subst (λ (n : ℕ). other < n) (sym (bounded_slots (raised o slot)))
+  within = λ other h. subst (λ (n : ℕ). other < n) (sym (bounded_slots (promoted o slot)))
       (elim (cases_eq other slot) [
         | inl e ↦ subst (λ (q : ℕ). q < o.slots) (sym e) within
         | inr ne ↦ s.within other (sym (pushed other ne) ∙ h)
       ]);
-  once = subst (λ (zs : List ℕ). is_distinct zs ≡ true) (sym (bounded_joined (raised o slot) ∙ raised_joined o slot))
+  once = subst (λ (zs : List ℕ). is_distinct zs ≡ true) (sym (bounded_joined (promoted o slot) ∙ raised_joined o slot))
       (distinct-between (o.cold ++ o.kept) [] slot
       (subst (λ (zs : List ℕ). contains zs slot ≡ false) (sym (append-nil (o.cold ++ o.kept))) (sym (listed_joined o slot) ∙ free))
       (subst (λ (zs : List ℕ). is_distinct zs ≡ true) (sym (append-nil (o.cold ++ o.kept))) s.once));
   bound = short;
 }
   where
-    pushed : (other : ℕ) → other ≢ slot → is_listed (bounded (raised o slot)) other ≡ is_listed o other
+    pushed : (other : ℕ) → other ≢ slot → is_listed (bounded (promoted o slot)) other ≡ is_listed o other
     pushed other ne =
-        listed_joined (bounded (raised o slot)) other ∙ ap (λ (zs : List ℕ). contains zs other) (bounded_joined (raised o slot) ∙ raised_joined o slot)
+        listed_joined (bounded (promoted o slot)) other ∙ ap (λ (zs : List ℕ). contains zs other) (bounded_joined (promoted o slot) ∙ raised_joined o slot)
         ∙ contains-push (o.cold ++ o.kept) slot other ∙ ap (λ (b : Bool). b || contains (o.cold ++ o.kept) other) (ne_eqb other slot ne) ∙ sym (listed_joined o other)
 
     drop_one : (xs : List ℕ) → 0 < length xs → length (drop 1 xs) + 1 ≡ length xs
     drop_one [] h = absurd (omega arith)
     drop_one (x ∷ xs) h = omega arith
 
-    short : length (bounded (raised o slot)).kept ≤ (bounded (raised o slot)).slots / 2
+    short : length (bounded (promoted o slot)).kept ≤ (bounded (promoted o slot)).slots / 2
     short =
         let one_more : length (o.kept ++ slot ∷ []) ≡ length o.kept + 1 = length-append o.kept (slot ∷ []) ∙ omega arith in
         let bound = s.bound in
-        elim (cases_Bool (nat_lt (o.slots / 2) (length (o.kept ++ slot ∷ [])))) as (λ _. length (bounded (raised o slot)).kept ≤ (bounded (raised o slot)).slots / 2) [
-          | inl long ↦ subst (λ (b : Bool). length (if b then cooled (raised o slot) else raised o slot).kept ≤ (if b then cooled (raised o slot) else raised o slot).slots / 2) (sym long)
+        elim (cases_Bool (nat_lt (o.slots / 2) (length (o.kept ++ slot ∷ [])))) as (λ _. length (bounded (promoted o slot)).kept ≤ (bounded (promoted o slot)).slots / 2) [
+          | inl long ↦ subst (λ (b : Bool). length (if b then cooled (promoted o slot) else promoted o slot).kept ≤ (if b then cooled (promoted o slot) else promoted o slot).slots / 2) (sym long)
               (let fewer : length (drop 1 (o.kept ++ slot ∷ [])) + 1 ≡ length (o.kept ++ slot ∷ []) = drop_one (o.kept ++ slot ∷ []) (omega arith) in omega arith)
-          | inr fits ↦ subst (λ (b : Bool). length (if b then cooled (raised o slot) else raised o slot).kept ≤ (if b then cooled (raised o slot) else raised o slot).slots / 2) (sym fits)
+          | inr fits ↦ subst (λ (b : Bool). length (if b then cooled (promoted o slot) else promoted o slot).kept ≤ (if b then cooled (promoted o slot) else promoted o slot).slots / 2) (sym fits)
               (ltb-false (o.slots / 2) (length (o.kept ++ slot ∷ [])) fits)
         ]
 

@@ -9,8 +9,8 @@ pub record Order : Type 0 where
   pub kept : List ℕ
 
 -- no slot is in a list
-abbrev pub opening : ℕ → Order
-opening slots = record { slots = slots; cold = []; kept = [] }
+abbrev pub opening_order : ℕ → Order
+opening_order slots = record { slots = slots; cold = []; kept = [] }
 
 -- whether the slot is in a list
 abbrev pub is_listed : Order → ℕ → Bool
@@ -21,12 +21,12 @@ abbrev pub admitted : Order → ℕ → Order
 admitted o slot = record { slots = o.slots; cold = o.cold ++ slot ∷ []; kept = o.kept }
 
 -- the slot is taken out
-abbrev pub left : Order → ℕ → Order
-left o slot = record { slots = o.slots; cold = without o.cold slot; kept = without o.kept slot }
+abbrev pub without_slot : Order → ℕ → Order
+without_slot o slot = record { slots = o.slots; cold = without o.cold slot; kept = without o.kept slot }
 
 -- the slot comes to kept's back
-abbrev pub raised : Order → ℕ → Order
-raised o slot = record { slots = o.slots; cold = o.cold; kept = o.kept ++ slot ∷ [] }
+abbrev pub promoted : Order → ℕ → Order
+promoted o slot = record { slots = o.slots; cold = o.cold; kept = o.kept ++ slot ∷ [] }
 
 -- kept's front goes to cold's back
 abbrev pub cooled : Order → Order
@@ -38,7 +38,7 @@ bounded o = if nat_lt (o.slots / 2) (length o.kept) then cooled o else o
 
 -- the slot is moved to kept's back, and kept stays within its bound
 abbrev pub touched : Order → ℕ → Order
-touched o slot = bounded (raised (left o slot) slot)
+touched o slot = bounded (promoted (without_slot o slot) slot)
 
 -- the first slot that isn't pinned, in cold and then in kept
 abbrev pub victim_of : Order → List Bool → Option ℕ

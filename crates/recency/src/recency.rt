@@ -1,5 +1,5 @@
 ghost use Rattle.std.specs.Prelude.{◌≡◌, ℕ, ◌<◌, ◌≤◌, ◌==◌, ◌&&◌, ◌||◌, true, false, not, List, [], length, IfOk, IfSome, IfNone, slice_index_or, find, take, ◌++◌};
-ghost use Rattle.recency.specs.Order.{Order, opening, is_listed, admitted, left, touched, victim_of, IsOrder, MayLeave};
+ghost use Rattle.recency.specs.Order.{Order, opening_order, is_listed, admitted, without_slot, touched, victim_of, IsOrder, MayLeave};
 ghost use Rattle.ix_links.specs.NodeList.{rest};
 ghost use Rattle.ix_links.specs.NodeLists.{list_at, with_list, IsDisjoint};
 
@@ -44,7 +44,7 @@ impl Recency {
     pub fn new(alloc: Global, slots: u32) -> Result<Recency, Memory>
         requires some { 2 ≤ slots }
         requires few { slots ≤ 4096 }
-        ensures made { IfOk result (λ recency. recency ≡ opening slots) }
+        ensures made { IfOk result (λ recency. recency ≡ opening_order slots) }
         ensures sound { IfOk result IsOrder }
     {
         Ok(Recency {
@@ -52,6 +52,21 @@ impl Recency {
             most_kept: slots / 2,
             kept: 0,
         })
+    }
+
+    /// How many slots there are.
+    pub fn slots(&self) -> u32
+        ensures { result ≡ self.now.slots }
+    {
+        self.links.nodes()
+    }
+
+    /// Whether a slot is in one of the lists.
+    pub fn is_listed(&self, slot: u32) -> bool
+        requires { slot < self.now.slots }
+        ensures { result ≡ is_listed self.now slot }
+    {
+        self.links.list_of(slot).is_some()
     }
 
     /// Puts a slot that is in neither list at the back of cold.
@@ -85,7 +100,7 @@ impl Recency {
     /// Takes a slot out of its list.
     pub fn leave(&mut self, slot: u32)
         requires { is_listed self.old slot ≡ true }
-        ensures left { self.new ≡ left self.old slot }
+        ensures left { self.new ≡ without_slot self.old slot }
         ensures listed { (other : ℕ) → is_listed self.new other ≡ (not (slot == other) && is_listed self.old other) }
         ensures within { slot < self.new.slots }
         ensures sound { IsOrder self.new }
@@ -150,21 +165,30 @@ mod tests {
     #[test]
     fn touched_slots_stay_longer(rt: HostRuntime) -> Result<(), Fail> {
         let mut recency = Recency::new(rt.alloc(), 2)?;
+        assert_eq!(rt; recency.slots(), 2);
         recency.admit(0);
         recency.admit(1);
         recency.touch(0);
         recency.touch(1);
-        assert_eq!(rt; recency.victim(&[false, false]), Some(0));
-        assert_eq!(rt; recency.victim(&[true, false]), Some(1));
-        assert_eq!(rt; recency.victim(&[true, true]), None);
+        let victims = [
+            ([false, false], Some(0)),
+            ([true, false], Some(1)),
+            ([true, true], None),
+        ];
+        for (pinned, victim) in victims {
+            assert_eq!(rt; recency.victim(&pinned), victim);
+        }
         Ok(())
     }
 
     #[test]
     fn a_slot_that_left_is_no_victim(rt: HostRuntime) -> Result<(), Fail> {
         let mut recency = Recency::new(rt.alloc(), 2)?;
+        assert!(rt; !recency.is_listed(0));
         recency.admit(0);
+        assert!(rt; recency.is_listed(0));
         recency.leave(0);
+        assert!(rt; !recency.is_listed(0));
         assert_eq!(rt; recency.victim(&[false, false]), None);
         Ok(())
     }

@@ -3,7 +3,7 @@ use Rattle.std.proofs.Common.{◌≡◌, ◌∙◌, inl, inr, ◌⊎◌, ℕ, �
 use Rattle.std.specs.Str.{bytes_eq}
 use Rattle.std.proofs.lemmas.Bool.{eqb-true}
 use Rattle.std.proofs.lemmas.Bool.Decides.{nat_tests}
-use Rattle.cell_store.specs.Store.{Contents, Gets, Puts, put_in}
+use Rattle.cell_store.specs.Store.{Contents, Gets, Puts, put_in, held_of}
 use Rattle.cell_store.specs.declared.store.Got.{Got}
 use Rattle.cell_store.specs.declared.store.Put.{Put}
 use Rattle.cell_store.specs.declared.store.Put.TheVariants as put
@@ -15,7 +15,7 @@ use Rattle.store_calls.proofs.Parts.{store_at, Changed, changed}
 pub record HoldAlike (P : ℕ → List ℕ → Type 0) (stores others : List Contents) : Type 0 where
   pub lanes : length others ≡ length stores
   pub told : (lane : ℕ) → lane < length stores → IsTrue (store_at stores lane).told × IsTrue (store_at others lane).told
-  pub held : (lane : ℕ) (key : List ℕ) → lane < length stores → P lane key → (store_at others lane).held key ≡ (store_at stores lane).held key
+  pub held : (lane : ℕ) (key : List ℕ) → lane < length stores → P lane key → (held_of (store_at others lane)) key ≡ (held_of (store_at stores lane)) key
 
 -- the same under fewer keys
 pub hold_fewer : (P Q : ℕ → List ℕ → Type 0) (stores others : List Contents) → ((lane : ℕ) (key : List ℕ) → Q lane key → P lane key) → HoldAlike P stores others → HoldAlike Q stores others
@@ -53,10 +53,10 @@ module _ (P : ℕ → List ℕ → Type 0) (stores others after : List Contents)
         | inr ne ↦ ap (λ (s : Contents). s.told) (change.elsewhere l ne)
       ]
 
-      same_held : (l : ℕ) → l < length stores → (store_at after l).held ≡ (store_at stores l).held
+      same_held : (l : ℕ) → l < length stores → (held_of (store_at after l)) ≡ (held_of (store_at stores l))
       same_held l lt = elim (same_or_not l lane) [
-        | inl e ↦ subst (λ i. (store_at after i).held ≡ (store_at stores i).held) (sym e) (change.here.unchanged (h.told lane change.inside).0)
-        | inr ne ↦ ap (λ (s : Contents). s.held) (change.elsewhere l ne)
+        | inl e ↦ subst (λ i. (held_of (store_at after i)) ≡ (held_of (store_at stores i))) (sym e) (change.here.unchanged (h.told lane change.inside).0)
+        | inr ne ↦ ap (λ (s : Contents). (held_of s)) (change.elsewhere l ne)
       ]
 
   pub get_second : IsCalled (Getting lane key limit answer found) others after → HoldAlike P stores after
@@ -75,10 +75,10 @@ module _ (P : ℕ → List ℕ → Type 0) (stores others after : List Contents)
         | inr ne ↦ ap (λ (s : Contents). s.told) (change.elsewhere l ne)
       ]
 
-      same_held : (l : ℕ) → l < length stores → (store_at after l).held ≡ (store_at others l).held
+      same_held : (l : ℕ) → l < length stores → (held_of (store_at after l)) ≡ (held_of (store_at others l))
       same_held l lt = elim (same_or_not l lane) [
-        | inl e ↦ subst (λ i. (store_at after i).held ≡ (store_at others i).held) (sym e) (change.here.unchanged (h.told lane (subst (λ n. lane < n) h.lanes change.inside)).1)
-        | inr ne ↦ ap (λ (s : Contents). s.held) (change.elsewhere l ne)
+        | inl e ↦ subst (λ i. (held_of (store_at after i)) ≡ (held_of (store_at others i))) (sym e) (change.here.unchanged (h.told lane (subst (λ n. lane < n) h.lanes change.inside)).1)
+        | inr ne ↦ ap (λ (s : Contents). (held_of s)) (change.elsewhere l ne)
       ]
 
 -- The same get of both, which failed alike, gives the same answer and the same bytes.
@@ -94,16 +94,16 @@ same_get P stores others after then lane key limit a b x y h p f g failed memory
     second : Changed (λ s t. Gets s t key limit b y) lane others then
     second = changed (λ s t. Gets s t key limit b y) lane others then g
 
-    one : ◌≡◌ {A = Got × List ℕ} (a, x) (due_answer ((store_at stores lane).held key) limit (is_failed (Getting lane key limit a x)) (wants_memory (Getting lane key limit a x)))
-    one = is_due ((store_at stores lane).held key) lane key limit a x (first.here.gives (h.told lane first.inside).0) first.here.empty
+    one : ◌≡◌ {A = Got × List ℕ} (a, x) (due_answer ((held_of (store_at stores lane)) key) limit (is_failed (Getting lane key limit a x)) (wants_memory (Getting lane key limit a x)))
+    one = is_due ((held_of (store_at stores lane)) key) lane key limit a x (first.here.gives (h.told lane first.inside).0) first.here.empty
 
-    two : ◌≡◌ {A = Got × List ℕ} (b, y) (due_answer ((store_at others lane).held key) limit (is_failed (Getting lane key limit b y)) (wants_memory (Getting lane key limit b y)))
-    two = is_due ((store_at others lane).held key) lane key limit b y (second.here.gives (h.told lane first.inside).1) second.here.empty
+    two : ◌≡◌ {A = Got × List ℕ} (b, y) (due_answer ((held_of (store_at others lane)) key) limit (is_failed (Getting lane key limit b y)) (wants_memory (Getting lane key limit b y)))
+    two = is_due ((held_of (store_at others lane)) key) lane key limit b y (second.here.gives (h.told lane first.inside).1) second.here.empty
 
     pairs : ◌≡◌ {A = Got × List ℕ} (b, y) (a, x)
     pairs = two ∙ ap (λ o. due_answer o limit (is_failed (Getting lane key limit b y)) (wants_memory (Getting lane key limit b y))) (h.held lane key first.inside p)
-        ∙ ap (λ r. due_answer ((store_at stores lane).held key) limit r (wants_memory (Getting lane key limit b y))) failed
-        ∙ ap (λ r. due_answer ((store_at stores lane).held key) limit (is_failed (Getting lane key limit a x)) r) memory ∙ sym one
+        ∙ ap (λ r. due_answer ((held_of (store_at stores lane)) key) limit r (wants_memory (Getting lane key limit b y))) failed
+        ∙ ap (λ r. due_answer ((held_of (store_at stores lane)) key) limit (is_failed (Getting lane key limit a x)) r) memory ∙ sym one
 
 -- under which keys the stores hold the same after a put under a key: under that one too where it was done, and not under that one where it wasn't
 abbrev pub AfterPut : Put → (ℕ → List ℕ → Type 0) → ℕ → List ℕ → ℕ → List ℕ → Type 0
@@ -113,10 +113,10 @@ AfterPut put.NoMemory P lane key l k = (lane ≡ l → bytes_eq key k ≡ false)
 
 -- what is held after a put, of two stores that held the same under a key if it isn't the one that was put
 same_leaves : (answer : Put) (P : ℕ → List ℕ → Type 0) (lane : ℕ) (key bytes : List ℕ) (l : ℕ) (k : List ℕ) (s t s' t' : Contents) → lane ≡ l → IsTrue s.told → IsTrue t.told → Puts s s' key bytes answer → Puts t t' key bytes answer
-    → (P l k → t.held k ≡ s.held k) → AfterPut answer P lane key l k → t'.held k ≡ s'.held k
+    → (P l k → (held_of t) k ≡ (held_of s) k) → AfterPut answer P lane key l k → (held_of t') k ≡ (held_of s') k
 same_leaves put.Done P lane key bytes l k s t s' t' e told other p q same after = q.leaves other k ∙ choose (bytes_eq key k) refl ∙ sym (p.leaves told k)
   where
-    choose : (b : Bool) → bytes_eq key k ≡ b → put_in t.held key bytes k ≡ put_in s.held key bytes k
+    choose : (b : Bool) → bytes_eq key k ≡ b → put_in (held_of t) key bytes k ≡ put_in (held_of s) key bytes k
     choose true r = rw r refl
     choose false r = rw r (same (after (λ _. r)))
 same_leaves put.Failed P lane key bytes l k s t s' t' e told other p q same after = q.leaves other k (after.0 e) ∙ same after.1 ∙ sym (p.leaves told k (after.0 e))
@@ -151,10 +151,10 @@ same_put P stores others after then lane key bytes answer h f g = record {
       | inr ne ↦ ap (λ (s : Contents). s.told) (change.elsewhere l ne)
     ]
 
-    same_held : (l : ℕ) (k : List ℕ) → l < length stores → AfterPut answer P lane key l k → (store_at then l).held k ≡ (store_at after l).held k
+    same_held : (l : ℕ) (k : List ℕ) → l < length stores → AfterPut answer P lane key l k → (held_of (store_at then l)) k ≡ (held_of (store_at after l)) k
     same_held l k lt p = elim (same_or_not l lane) [
-      | inl e ↦ subst (λ i. (store_at then i).held k ≡ (store_at after i).held k) (sym e)
+      | inl e ↦ subst (λ i. (held_of (store_at then i)) k ≡ (held_of (store_at after i)) k) (sym e)
           (same_leaves answer P lane key bytes l k (store_at stores lane) (store_at others lane) (store_at after lane) (store_at then lane) (sym e) (h.told lane first.inside).0 (h.told lane first.inside).1 first.here second.here
-          (λ q. subst (λ i. (store_at others i).held k ≡ (store_at stores i).held k) e (h.held l k lt q)) p)
-      | inr ne ↦ ap (λ (s : Contents). s.held k) (second.elsewhere l ne) ∙ h.held l k lt (still_holds answer P lane key l k ne p) ∙ ap (λ (s : Contents). s.held k) (sym (first.elsewhere l ne))
+          (λ q. subst (λ i. (held_of (store_at others i)) k ≡ (held_of (store_at stores i)) k) e (h.held l k lt q)) p)
+      | inr ne ↦ ap (λ (s : Contents). (held_of s) k) (second.elsewhere l ne) ∙ h.held l k lt (still_holds answer P lane key l k ne p) ∙ ap (λ (s : Contents). (held_of s) k) (sym (first.elsewhere l ne))
     ]

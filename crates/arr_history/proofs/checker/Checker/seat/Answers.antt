@@ -1,7 +1,7 @@
 use Rattle.std.proofs.Common.{◌≡◌, ◌<◌, ◌+◌, length, slice_index, slice_set, Some, sym, subst, refl, ap}
 use Rattle.arr_history.specs.Legal.{HasSlot}
 use Rattle.arr_history.specs.Tracked.{tracked_at}
-use Rattle.arr_history.specs.Checked.{Checked, state_of}
+use Rattle.arr_history.specs.Checked.{Checked, checked_state}
 use Rattle.arr_history.specs.declared.event.Event.TheVariants as happening
 use Rattle.arr_history.specs.Next.{next}
 use Rattle.arr_history.specs.Checked.{Becomes, MayHappen}
@@ -27,5 +27,5 @@ returns c =
     let lt : c.args.cell < length inside.cells = subst (λ m. c.args.cell < m) (sym c.self.invariant.cells) legal.1.0 in
     let k : c.args.k < length (tracked_at inside.cells c.args.cell).pins = subst (λ m. c.args.k < m) (sym (c.self.invariant.pins c.args.cell lt)) legal.0 in
     let none : slice_index (tracked_at inside.cells c.args.cell).pins c.args.k + 1 ≡ 1 = ap (λ n. n + 1) (no_pins inside c.args.cell c.args.k c.args.k _ c.self.invariant legal.1.2) in
-    subst (λ (x : Checked). Becomes x (next (state_of x) (happening.Live c.args.k c.args.cell c.args.slot)) (record { levels = c.self.inside.geometry; cells = c.set_live.new.cells.items; slots = length (slice_set c.self.inside.owners.items c.args.slot (Some c.args.cell)); passes = c.self.inside.passes })) is
+    subst (λ (x : Checked). Becomes x (next (checked_state x) (happening.Live c.args.k c.args.cell c.args.slot)) (record { levels = c.self.inside.geometry; cells = c.set_live.new.cells.items; slots = length (slice_set c.self.inside.owners.items c.args.slot (Some c.args.cell)); passes = c.self.inside.passes })) is
     (rw (length-set c.self.inside.owners.items c.args.slot (Some c.args.cell), none, c.set_live.ensures) (becomes_live inside c.args.cell c.args.k c.args.slot 1 lt k))

@@ -2,7 +2,7 @@ use Rattle.std.proofs.Common.{◌≡◌, ◌↔◌, ◌<◌, ℕ, length, sym, s
 use Rattle.cell_grid.specs.Pyramid.{cells_of}
 use Rattle.arr_history.specs.Legal.{IsLive, HasSlot}
 use Rattle.arr_history.specs.Tracked.{tracked_at, in_state}
-use Rattle.arr_history.specs.Checked.{Checked, state_of}
+use Rattle.arr_history.specs.Checked.{Checked, checked_state}
 use Rattle.arr_history.proofs.Tracks.{MayBecome, keeps_slot}
 use Rattle.arr_history.proofs.checker.Checker.set_state.Goals as goal
 
@@ -16,7 +16,7 @@ invariant_of-self c =
       void = refl;
       pins = refl;
       array = refl;
-      pinned = subst (λ (x : Checked). (k : ℕ) → 0 < (state_of x).pins k c.args.cell → IsLive c.args.state) (sym is) c.requires.pinned;
+      pinned = subst (λ (x : Checked). (k : ℕ) → 0 < (checked_state x).pins k c.args.cell → IsLive c.args.state) (sym is) c.requires.pinned;
     } in
     rw c.set_state.ensures (keeps_slot inside c.args.cell (in_state (tracked_at inside.cells c.args.cell) c.args.state) _ c.self.invariant may
-    (subst (λ (x : Checked). (slot : ℕ) → HasSlot c.args.state slot ↔ HasSlot ((state_of x).cells c.args.cell) slot) (sym is) c.requires.slot))
+    (subst (λ (x : Checked). (slot : ℕ) → HasSlot c.args.state slot ↔ HasSlot ((checked_state x).cells c.args.cell) slot) (sym is) c.requires.slot))

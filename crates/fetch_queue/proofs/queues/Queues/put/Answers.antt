@@ -1,6 +1,6 @@
 use Rattle.std.proofs.Common.{ℕ, ◌<◌, sym, ap, subst, ◌∙◌}
 use Rattle.fetch_queue.specs.declared.request.Request.{Request}
-use Rattle.fetch_queue.specs.Queue.{Queue, put_in, pair}
+use Rattle.fetch_queue.specs.Queue.{Queue, put_request, pair}
 use Rattle.fetch_queue.specs.Ranking.{Ranking, waiting_nodes}
 use Rattle.fetch_queue.specs.Requests.{request_of}
 use Rattle.fetch_queue.specs.Queues.{queue_of_ranking}
@@ -22,7 +22,7 @@ returns c =
     let cell_in : c.args.cell < c.self.inside.ranks.cells = subst (λ (q : Queue). c.args.cell < q.cells) (sym c.self.view_is) c.requires.cell_in_range in
     ap (λ (r : Ranking). queue_of_ranking r c.self.inside.bound) c.put.ensures
     ∙ put_view c.self.inside.ranks c.self.inside.bound c.from-2.result c.node-node.result c.args.to_front at
-    ∙ ap (λ (r : Request). put_in (queue_of_ranking c.self.inside.ranks c.self.inside.bound) r c.from-2.result c.args.to_front)
+    ∙ ap (λ (r : Request). put_request (queue_of_ranking c.self.inside.ranks c.self.inside.bound) r c.from-2.result c.args.to_front)
     (ap (λ (n : ℕ). request_of c.self.inside.ranks.cells n) c.node-node.ensures.node ∙ request_of_pair c.self.inside.ranks.cells c.args.viewer c.args.cell cell_in)
-    ∙ ap (λ (k : ℕ). put_in (queue_of_ranking c.self.inside.ranks c.self.inside.bound) (pair c.args.viewer c.args.cell) k c.args.to_front) c.from-2.ensures
-    ∙ ap (λ (q : Queue). put_in q (pair c.args.viewer c.args.cell) c.args.priority c.args.to_front) c.self.view_is
+    ∙ ap (λ (k : ℕ). put_request (queue_of_ranking c.self.inside.ranks c.self.inside.bound) (pair c.args.viewer c.args.cell) k c.args.to_front) c.from-2.ensures
+    ∙ ap (λ (q : Queue). put_request q (pair c.args.viewer c.args.cell) c.args.priority c.args.to_front) c.self.view_is

@@ -2,7 +2,7 @@ use Rattle.std.proofs.Common.{◌≡◌, ◌-◌, ◌<◌, true, false, length, 
 use Rattle.ix_links.specs.NodeList.{contains}
 use Rattle.ix_links.specs.NodeLists.{list_at}
 use Rattle.std.proofs.lemmas.Grind.{common_steps}
-use Rattle.recency.specs.Order.{Order, IsOrder, is_listed, left}
+use Rattle.recency.specs.Order.{Order, IsOrder, is_listed, without_slot}
 use Rattle.recency.specs.Recency.{order_of}
 use Rattle.recency.proofs.Orders.{seen_sound, left_listed, left_sound}
 use Rattle.recency.proofs.Counts.{kept_test, left_counted, kept_less, kept_same, kept_some}
@@ -27,22 +27,22 @@ invariant_of-self-else-was_kept c =
 
 pub returns-then-was_kept-clause-listed : goal.returns-then-was_kept-clause-listed
 returns-then-was_kept-clause-listed c = λ other.
-    let is : order_of (record { links = c.remove.new.self; most_kept = c.self.inside.most_kept; kept = c.self.inside.kept - 1 }) ≡ left c.args.self.now c.args.slot = grind (arith, common_steps) in
+    let is : order_of (record { links = c.remove.new.self; most_kept = c.self.inside.most_kept; kept = c.self.inside.kept - 1 }) ≡ without_slot c.args.self.now c.args.slot = grind (arith, common_steps) in
     ap (λ (o : Order). is_listed o other) is ∙ left_listed c.args.self.now c.args.slot other
 
 pub returns-then-was_kept-clause-sound : goal.returns-then-was_kept-clause-sound
 returns-then-was_kept-clause-sound c =
-    let is : order_of (record { links = c.remove.new.self; most_kept = c.self.inside.most_kept; kept = c.self.inside.kept - 1 }) ≡ left c.args.self.now c.args.slot = grind (arith, common_steps) in
+    let is : order_of (record { links = c.remove.new.self; most_kept = c.self.inside.most_kept; kept = c.self.inside.kept - 1 }) ≡ without_slot c.args.self.now c.args.slot = grind (arith, common_steps) in
     subst (λ (o : Order). IsOrder o) (sym is) (left_sound c.args.self.now c.args.slot
     (seen_sound c.self.inside.links c.self.inside.most_kept c.self.inside.kept c.self.invariant.disjoint c.self.invariant.half c.self.invariant.counted c.self.invariant.bound c.args.self.now c.self.view_is))
 
 pub returns-else-was_kept-clause-listed : goal.returns-else-was_kept-clause-listed
 returns-else-was_kept-clause-listed c = λ other.
-    let is : order_of (record { links = c.remove.new.self; most_kept = c.self.inside.most_kept; kept = c.self.inside.kept }) ≡ left c.args.self.now c.args.slot = grind (arith, common_steps) in
+    let is : order_of (record { links = c.remove.new.self; most_kept = c.self.inside.most_kept; kept = c.self.inside.kept }) ≡ without_slot c.args.self.now c.args.slot = grind (arith, common_steps) in
     ap (λ (o : Order). is_listed o other) is ∙ left_listed c.args.self.now c.args.slot other
 
 pub returns-else-was_kept-clause-sound : goal.returns-else-was_kept-clause-sound
 returns-else-was_kept-clause-sound c =
-    let is : order_of (record { links = c.remove.new.self; most_kept = c.self.inside.most_kept; kept = c.self.inside.kept }) ≡ left c.args.self.now c.args.slot = grind (arith, common_steps) in
+    let is : order_of (record { links = c.remove.new.self; most_kept = c.self.inside.most_kept; kept = c.self.inside.kept }) ≡ without_slot c.args.self.now c.args.slot = grind (arith, common_steps) in
     subst (λ (o : Order). IsOrder o) (sym is) (left_sound c.args.self.now c.args.slot
     (seen_sound c.self.inside.links c.self.inside.most_kept c.self.inside.kept c.self.invariant.disjoint c.self.invariant.half c.self.invariant.counted c.self.invariant.bound c.args.self.now c.self.view_is))

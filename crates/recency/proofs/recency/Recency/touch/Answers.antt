@@ -1,7 +1,7 @@
 use Rattle.std.proofs.Common.{◌≡◌, ℕ, ◌-◌, ◌+◌, ◌<◌, Bool, not, ◌&&◌, refl, sym, ap, subst, ◌∙◌, arith}
 use Rattle.std.proofs.lemmas.Bool.{eq-eqb}
 use Rattle.std.proofs.lemmas.Grind.{common_steps}
-use Rattle.recency.specs.Order.{Order, IsOrder, is_listed, left, touched}
+use Rattle.recency.specs.Order.{Order, IsOrder, is_listed, without_slot, touched}
 use Rattle.recency.specs.Recency.{order_of}
 use Rattle.recency.proofs.Orders.{touched_listed, bounded_sound, left_listed}
 use Rattle.recency.proofs.recency.Recency.touch.Goals as goal
@@ -12,9 +12,9 @@ returns-then-self-clause-listed c = λ other.
     ap (λ (o : Order). is_listed o other) is ∙ touched_listed c.args.self.now c.args.slot c.requires other
 
 -- the touched order is sound
-sound : (o : Order) (slot : ℕ) (l : Order) → l ≡ left o slot → IsOrder l → slot < l.slots → IsOrder (touched o slot)
+sound : (o : Order) (slot : ℕ) (l : Order) → l ≡ without_slot o slot → IsOrder l → slot < l.slots → IsOrder (touched o slot)
 sound o slot l is s within =
-    bounded_sound (left o slot) slot (subst (λ (w : Order). IsOrder w) is s) (subst (λ (w : Order). slot < w.slots) is within)
+    bounded_sound (without_slot o slot) slot (subst (λ (w : Order). IsOrder w) is s) (subst (λ (w : Order). slot < w.slots) is within)
     (left_listed o slot slot ∙ ap (λ (b : Bool). not b && is_listed o slot) (eq-eqb slot slot refl))
 
 pub returns-then-self-clause-sound : goal.returns-then-self-clause-sound
