@@ -1,0 +1,6 @@
+//! What stores stand for, and what a history did to them: the words that each cache says this in.
+#![tactic(auto)]
+
+mod laws;
+
+pub use laws::{logs_add_up, openings_stand, rises_are_counted, totals_are_counts};
