@@ -8,7 +8,7 @@ use Rattle.cell_file.specs.Keys.{AreKeys, edited_key}
 use Rattle.arr_history.specs.declared.event.Event.{Event}
 use Rattle.arr_history.specs.declared.event.Event.TheVariants as event
 use Rattle.arr_history.specs.State.{State}
-use Rattle.arr_history.specs.Tally.{raised, is_writeback}
+use Rattle.arr_history.specs.Tally.{tally_raised, is_writeback}
 use Rattle.arr_history.specs.History.{IsSame}
 use Rattle.arr_history.proofs.Leads.{same_after, same_sym, same_trans, same_in}
 use Rattle.store_calls.proofs.Holds.{HoldAlike, hold_fewer}
@@ -53,7 +53,7 @@ module _ (c d c' d' : Cached) (events : List Event) (a : AreAlike c d) (first : 
         (same_trans (shape_of c) _ _ _ (same_sym (shape_of c) _ _ first.moves.led.reached)
         (same_trans (shape_of c) _ _ _ (same_after (shape_of c) _ _ events a.same) (same_in_first _ _ second.moves.led.reached)));
     order = order_after_both;
-    tally = second.tally ∙ ap (λ t. raised t events []) a.tally ∙ sym first.tally;
+    tally = second.tally ∙ ap (λ t. tally_raised t events []) a.tally ∙ sym first.tally;
     told = h.told;
     held = h.held;
     first = valid;

@@ -14,12 +14,12 @@ use Rattle.sole_cache.specs.Handle.{Handle}
 use Rattle.sole_cache.specs.Moves.{saves}
 use Rattle.sole_cache.specs.Pieces.{IsHit}
 use Rattle.sole_cache.specs.Room.{IsFull}
-use Rattle.sole_cache.specs.Acquires.{lane_at, MakesRoom, Loads, Drops, HoldsUp, IsAcquire, refusal_by}
+use Rattle.sole_cache.specs.Acquires.{lane_at, MakesRoom, Loads, Drops, HoldsUp, IsAcquire, acquire_refusal_by}
 
 -- what an acquire answers by its fetch, and its last event
 abbrev pub answer_by : ℕ → ℕ → Result (Unit {0}) FetchErr → Result Handle AcquireErr
 answer_by cell slot (outcome.Ok done) = outcome.Ok (record { cell = cell; slot = slot; loaded = true })
-answer_by cell slot (outcome.Err cause) = outcome.Err (refusal_by cause)
+answer_by cell slot (outcome.Err cause) = outcome.Err (acquire_refusal_by cause)
 
 abbrev pub last_event : ℕ → ℕ → Result (Unit {0}) FetchErr → Event
 last_event cell slot (outcome.Ok done) = Live 0 cell slot

@@ -17,7 +17,7 @@ use Rattle.arr_history.specs.Legal.{IsMarked}
 use Rattle.sole_cache.specs.Slot.{SlotValue, slot_in}
 use Rattle.sole_cache.specs.Cached.{Cached, slot_of, slot_at, state_at}
 use Rattle.sole_cache.specs.Puts.{named_by, IsPutWhere, IsPutAt, IsPutSlot, ArePut}
-use Rattle.alike_caches.specs.Alike.{AreAlike, AreAlikeBut, IsSettled, IsUnnamed}
+use Rattle.alike_caches.specs.Alike.{AreAlike, AreAlikeBut, IsSettled, IsUnnamedKey}
 use Rattle.alike_caches.proofs.After.{hold_alike}
 use Rattle.alike_caches.proofs.Seats.{some_same, none_some, cell_same, marked_same, voxels_same}
 
@@ -49,7 +49,7 @@ module _ (levels : List Level) (lanes : ℕ) where
   clear_more s slots lane key h more (suc i) = more i
 
   -- a key isn't that of any cell that is named, and of the cells of two parts
-  unnamed_apart : (first more : List Unsaved) (lane : ℕ) (key : List ℕ) → IsUnnamed levels lanes (first ++ more) lane key → IsUnnamed levels lanes first lane key × IsUnnamed levels lanes more lane key
+  unnamed_apart : (first more : List Unsaved) (lane : ℕ) (key : List ℕ) → IsUnnamedKey levels lanes (first ++ more) lane key → IsUnnamedKey levels lanes first lane key × IsUnnamedKey levels lanes more lane key
   unnamed_apart [] more lane key h = (tt, h)
   unnamed_apart (u ∷ first) more lane key h = let rest = unnamed_apart first more lane key h.1 in ((h.0, rest.0), rest.1)
 
@@ -57,7 +57,7 @@ module _ (levels : List Level) (lanes : ℕ) where
   record ClosesAlike (P : ℕ → List ℕ → Type 0) (u v : List Unsaved) (k l : List StoreCall) (stores others : List Contents) : Type 0 where
     named : v ≡ u
     calls : l ≡ k
-    hold : HoldAlike (λ lane key. IsUnnamed levels lanes u lane key × P lane key) stores others
+    hold : HoldAlike (λ lane key. IsUnnamedKey levels lanes u lane key × P lane key) stores others
 
   -- a slot of which no cell is put
   none_put : (P Q : ℕ → List ℕ → Type 0) (u v : List Unsaved) (k l : List StoreCall) (stores others stores' others' : List Contents) → ((lane : ℕ) (key : List ℕ) → Q lane key) → HoldAlike (λ lane key. Q lane key × P lane key) stores others
@@ -65,7 +65,7 @@ module _ (levels : List Level) (lanes : ℕ) where
   none_put P Q u v k l stores others stores' others' every h p q f g = record {
     named = q.0 ∙ sym p.0;
     calls = q.1 ∙ sym p.1;
-    hold = hold_fewer (λ lane key. Q lane key × P lane key) (λ lane key. IsUnnamed levels lanes u lane key × P lane key) stores' others' (λ lane key r. (every lane key, r.1))
+    hold = hold_fewer (λ lane key. Q lane key × P lane key) (λ lane key. IsUnnamedKey levels lanes u lane key × P lane key) stores' others' (λ lane key r. (every lane key, r.1))
         (subst (λ s. HoldAlike (λ lane key. Q lane key × P lane key) s others') (sym (subst (λ x. AreCalled x stores stores') p.1 f))
         (subst (λ o. HoldAlike (λ lane key. Q lane key × P lane key) stores o) (sym (subst (λ x. AreCalled x others others') q.1 g)) h));
   }
@@ -77,7 +77,7 @@ module _ (levels : List Level) (lanes : ℕ) where
       subst (λ j. bytes_eq (edited_key levels j) key ≡ false) e (h (ap (λ j. lane_of j lanes) e ∙ same))
 
   -- after the put of a marked cell its key is alike, or it is named
-  named_after : (answer : Put) (P : ℕ → List ℕ → Type 0) (s : SlotValue) (n : ℕ) (lane : ℕ) (key : List ℕ) → s.cell ≡ Some n → IsUnnamed levels lanes (named_by n answer) lane key × P lane key
+  named_after : (answer : Put) (P : ℕ → List ℕ → Type 0) (s : SlotValue) (n : ℕ) (lane : ℕ) (key : List ℕ) → s.cell ≡ Some n → IsUnnamedKey levels lanes (named_by n answer) lane key × P lane key
       → AfterPut answer (λ l k. IsClearOf s l k × P l k) (lane_of n lanes) (edited_key levels n) lane key
   named_after put.Done P s n lane key here r = λ other. (clear_of s n lane key here other, r.1)
   named_after put.Failed P s n lane key here r = (r.0.0, (clear_of s n lane key here r.0.0, r.1))
@@ -95,8 +95,8 @@ module _ (levels : List Level) (lanes : ℕ) where
     closes_where true cell mark here voxels p q = record {
       named = q.1 ∙ ap (named_by cell) answer ∙ sym p.1;
       calls = second_is ∙ ap (λ a. call a ∷ []) answer ∙ sym p.2;
-      hold = subst (λ x. HoldAlike (λ lane key. IsUnnamed levels lanes x lane key × P lane key) stores' others') (sym p.1)
-          (hold_fewer after_put (λ lane key. IsUnnamed levels lanes (named_by cell p.0) lane key × P lane key) stores' others' (λ lane key r. named_after p.0 P s cell lane key here r) held);
+      hold = subst (λ x. HoldAlike (λ lane key. IsUnnamedKey levels lanes x lane key × P lane key) stores' others') (sym p.1)
+          (hold_fewer after_put (λ lane key. IsUnnamedKey levels lanes (named_by cell p.0) lane key × P lane key) stores' others' (λ lane key r. named_after p.0 P s cell lane key here r) held);
     }
       where
         call : Put → StoreCall
@@ -145,14 +145,14 @@ module _ (levels : List Level) (lanes : ℕ) where
       (subst (λ x. FailAlike (x ++ m) ((q.2 ++ q.3) ++ n)) p.7 (subst (λ y. FailAlike (k ++ m) (y ++ n)) q.7 fail))) in
       let begin = hold_fewer (λ lane key. IsClear (s ∷ slots) lane key × P lane key) (λ lane key. IsClearOf s lane key × (IsClear slots lane key × P lane key)) stores others (λ lane key r. (clear_more s slots lane key r.0 r.1.0, r.1.1)) h in
       let one = closes_slot (λ lane key. IsClear slots lane key × P lane key) s t p.0 q.0 p.2 q.2 (p.3 ++ m) (q.3 ++ n) stores others first.0 second.0 begin first.1 second.1 parts (same 0) p.4 q.4 in
-      let on = hold_fewer (λ lane key. IsUnnamed levels lanes p.0 lane key × (IsClear slots lane key × P lane key)) (λ lane key. IsClear slots lane key × (IsUnnamed levels lanes p.0 lane key × P lane key)) first.0 second.0 (λ lane key r. (r.1.0, (r.0, r.1.1))) one.hold in
-      let more = closes_slots (λ lane key. IsUnnamed levels lanes p.0 lane key × P lane key) slots also p.1 q.1 p.3 q.3 m n first.0 second.0 stores' others' (few_more few) (λ i. same (suc i)) on p.5 q.5 first.2 second.2
+      let on = hold_fewer (λ lane key. IsUnnamedKey levels lanes p.0 lane key × (IsClear slots lane key × P lane key)) (λ lane key. IsClear slots lane key × (IsUnnamedKey levels lanes p.0 lane key × P lane key)) first.0 second.0 (λ lane key r. (r.1.0, (r.0, r.1.1))) one.hold in
+      let more = closes_slots (λ lane key. IsUnnamedKey levels lanes p.0 lane key × P lane key) slots also p.1 q.1 p.3 q.3 m n first.0 second.0 stores' others' (few_more few) (λ i. same (suc i)) on p.5 q.5 first.2 second.2
       (fail_after p.2 (p.3 ++ m) (q.3 ++ n) (subst (λ y. FailAlike (p.2 ++ (p.3 ++ m)) (y ++ (q.3 ++ n))) one.calls parts)) in
       record {
         named = q.6 ∙ ap (λ x. x ++ q.1) one.named ∙ ap (λ x. p.0 ++ x) more.named ∙ sym p.6;
         calls = q.7 ∙ ap (λ x. x ++ q.3) one.calls ∙ ap (λ x. p.2 ++ x) more.calls ∙ sym p.7;
-        hold = subst (λ x. HoldAlike (λ lane key. IsUnnamed levels lanes x lane key × P lane key) stores' others') (sym p.6)
-            (hold_fewer (λ lane key. IsUnnamed levels lanes p.1 lane key × (IsUnnamed levels lanes p.0 lane key × P lane key)) (λ lane key. IsUnnamed levels lanes (p.0 ++ p.1) lane key × P lane key) stores' others'
+        hold = subst (λ x. HoldAlike (λ lane key. IsUnnamedKey levels lanes x lane key × P lane key) stores' others') (sym p.6)
+            (hold_fewer (λ lane key. IsUnnamedKey levels lanes p.1 lane key × (IsUnnamedKey levels lanes p.0 lane key × P lane key)) (λ lane key. IsUnnamedKey levels lanes (p.0 ++ p.1) lane key × P lane key) stores' others'
             (λ lane key r. let apart = unnamed_apart p.0 p.1 lane key r.0 in (apart.1, (apart.0, r.1))) more.hold);
       }
     where
@@ -185,7 +185,7 @@ shuts_alike c d u v k l m n stores others a p q f g fail =
       record {
         lanes = same.hold.lanes;
         told = same.hold.told;
-        held = λ lane key lt r. same.hold.held lane key lt (subst (λ x. IsUnnamed c.levels x u lane key) count r, tt);
+        held = λ lane key lt r. same.hold.held lane key lt (subst (λ x. IsUnnamedKey c.levels x u lane key) count r, tt);
       },
       fail_after k m n (subst (λ y. FailAlike (k ++ m) (y ++ n)) same.calls fail),
     )

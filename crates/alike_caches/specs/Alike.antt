@@ -4,7 +4,7 @@ use Rattle.std.specs.Str.{bytes_eq}
 use Rattle.cell_grid.specs.declared.level.Level.{Level}
 use Rattle.cell_grid.specs.Pyramid.{cells_of, lane_of}
 use Rattle.cell_file.specs.Keys.{AreKeys, edited_key}
-use Rattle.cell_store.specs.Store.{Contents}
+use Rattle.cell_store.specs.Store.{Contents, held_of}
 use Rattle.arr_history.specs.declared.closed.Unsaved.{Unsaved}
 use Rattle.arr_history.specs.History.{IsSame}
 use Rattle.arr_history.specs.Legal.{IsMarked}
@@ -28,17 +28,17 @@ pub record AreAlike (c d : Cached) : Type 0 where
   pub order : d.order ≡ c.order
   pub tally : d.tally ≡ c.tally
   pub told : (lane : ℕ) → lane < length c.shown → IsTrue (store_in c.shown lane).told × IsTrue (store_in d.shown lane).told
-  pub held : (lane : ℕ) (key : List ℕ) → lane < length c.shown → IsSettled c lane key → (store_in d.shown lane).held key ≡ (store_in c.shown lane).held key
+  pub held : (lane : ℕ) (key : List ℕ) → lane < length c.shown → IsSettled c lane key → (held_of (store_in d.shown lane)) key ≡ (held_of (store_in c.shown lane)) key
   pub first : IsCache c
   pub second : IsCache d
 
 -- not the edited key of a cell of that store that is named unsaved
-abbrev pub IsUnnamed : List Level → ℕ → List Unsaved → ℕ → List ℕ → Type 0
-IsUnnamed levels lanes [] lane key = Unit {0}
-IsUnnamed levels lanes (u ∷ unsaved) lane key = (lane_of u.cell lanes ≡ lane → bytes_eq (edited_key levels u.cell) key ≡ false) × IsUnnamed levels lanes unsaved lane key
+abbrev pub IsUnnamedKey : List Level → ℕ → List Unsaved → ℕ → List ℕ → Type 0
+IsUnnamedKey levels lanes [] lane key = Unit {0}
+IsUnnamedKey levels lanes (u ∷ unsaved) lane key = (lane_of u.cell lanes ≡ lane → bytes_eq (edited_key levels u.cell) key ≡ false) × IsUnnamedKey levels lanes unsaved lane key
 
 -- Two lists of stores that tell, and hold the same but under the edited keys of these cells.
 pub record AreAlikeBut (levels : List Level) (unsaved : List Unsaved) (stores others : List Contents) : Type 0 where
   pub lanes : length others ≡ length stores
   pub told : (lane : ℕ) → lane < length stores → IsTrue (store_in stores lane).told × IsTrue (store_in others lane).told
-  pub held : (lane : ℕ) (key : List ℕ) → lane < length stores → IsUnnamed levels (length stores) unsaved lane key → (store_in others lane).held key ≡ (store_in stores lane).held key
+  pub held : (lane : ℕ) (key : List ℕ) → lane < length stores → IsUnnamedKey levels (length stores) unsaved lane key → (held_of (store_in others lane)) key ≡ (held_of (store_in stores lane)) key

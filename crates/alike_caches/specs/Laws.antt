@@ -38,13 +38,13 @@ QuietIsAlike = (c d c' d' : Cached) (events : List Event) → list_any is_writeb
 
 -- Gets and sets of a voxel give the same answer.
 abbrev pub GetsAreAlike : Type 0
-GetsAreAlike = (c d c' d' : Cached) (level : ℕ) (pos : List ℕ) (r s : Result ℕ CellErr) (k l m n : List StoreCall)
-    → AreAlike c d → GetsVoxel c level pos r k c' → GetsVoxel d level pos s l d' → FailAlike (k ++ m) (l ++ n)
+GetsAreAlike = (c d c' d' : Cached) (level : ℕ) (pos : List ℕ) (r s : Result ℕ CellErr) (p q : List Event) (k l m n : List StoreCall)
+    → AreAlike c d → GetsVoxel c level pos r p k c' → GetsVoxel d level pos s q l d' → FailAlike (k ++ m) (l ++ n)
     → (s ≡ r) × AreAlike c' d' × FailAlike m n
 
 abbrev pub SetsAreAlike : Type 0
-SetsAreAlike = (c d c' d' : Cached) (level : ℕ) (pos : List ℕ) (x : ℕ) (r s : Result (Unit {0}) CellErr) (k l m n : List StoreCall)
-    → AreAlike c d → SetsVoxel c level pos x r k c' → SetsVoxel d level pos x s l d' → FailAlike (k ++ m) (l ++ n)
+SetsAreAlike = (c d c' d' : Cached) (level : ℕ) (pos : List ℕ) (x : ℕ) (r s : Result (Unit {0}) CellErr) (p q : List Event) (k l m n : List StoreCall)
+    → AreAlike c d → SetsVoxel c level pos x r p k c' → SetsVoxel d level pos x s q l d' → FailAlike (k ++ m) (l ++ n)
     → (s ≡ r) × AreAlike c' d' × FailAlike m n
 
 -- The puts by which caches are shut name the same cells, and leave stores that hold the same but under the edited keys of those.

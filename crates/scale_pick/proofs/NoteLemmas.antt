@@ -11,7 +11,7 @@ use Rattle.scale_pick.specs.declared.strategy.Strategy.{Strategy}
 use Rattle.scale_pick.specs.declared.strategy.Strategy.TheVariants.{Blocking, Budgeted, Volatile, DontLoad}
 use Rattle.scale_pick.specs.declared.note.Note.{Note}
 use Rattle.scale_pick.specs.declared.note.Note.TheVariants as note
-use Rattle.scale_pick.specs.Notes.{patience, patience_after, noted, notes, patience_left, notes_of}
+use Rattle.scale_pick.specs.Notes.{patience, patience_after, notes_of_event, notes, patience_left, notes_of}
 use Rattle.scale_pick.specs.Laws.{AreNoted}
 use Rattle.scale_pick.specs.Looks.{is_load, loads_in, LoadsNoMore, FoundNotReady}
 
@@ -36,7 +36,7 @@ cell_of (note.Read c i x) = c
 cell_of (note.NotReady c) = c
 
 -- an event that notes a cell found not ready is a miss, when nothing more is loaded
-look_of : (p : Option ℕ) (e : Event) (c : ℕ) → Contains (noted p e) (note.NotReady c) → (k : ℕ) × ((e ≡ Miss k c) × (p ≡ Some 0))
+look_of : (p : Option ℕ) (e : Event) (c : ℕ) → Contains (notes_of_event p e) (note.NotReady c) → (k : ℕ) × ((e ≡ Miss k c) × (p ≡ Some 0))
 look_of p (Read k d i x) c h = absurd (true≢false (ap is_read (one (note.Read d i x) (note.NotReady c) h)))
 look_of (Some zero) (Miss k d) c h = (k, (ap (λ n. Miss k n) (ap cell_of (one (note.NotReady d) (note.NotReady c) h)), refl))
 look_of (Some (suc n)) (Miss k d) c h = nothing (note.NotReady c) h
@@ -53,7 +53,7 @@ look_of p (Gone k d saved) c h = nothing (note.NotReady c) h
 look_of p (Back k d) c h = nothing (note.NotReady c) h
 
 -- an event that notes what was read is that read
-read_of : (p : Option ℕ) (e : Event) (c i x : ℕ) → Contains (noted p e) (note.Read c i x) → (k : ℕ) × (e ≡ Read k c i x)
+read_of : (p : Option ℕ) (e : Event) (c i x : ℕ) → Contains (notes_of_event p e) (note.Read c i x) → (k : ℕ) × (e ≡ Read k c i x)
 read_of p (Read k d j y) c i x h = (k, reads_same (one (note.Read d j y) (note.Read c i x) h))
   where
     part : (Note → ℕ) → Note → ℕ
@@ -93,7 +93,7 @@ record Look (p : Option ℕ) (events : List Event) (c : ℕ) : Type 0 where
 
 look_in : (p : Option ℕ) (events : List Event) (c : ℕ) → Contains (notes p events) (note.NotReady c) → Look p events c
 look_in p [] c h = nothing (note.NotReady c) h
-look_in p (e ∷ events) c h = choose (λ m. look_in (patience_after p e) events c m) (Contains-append_cases (noted p e) (notes (patience_after p e) events) (note.NotReady c) h)
+look_in p (e ∷ events) c h = choose (λ m. look_in (patience_after p e) events c m) (Contains-append_cases (notes_of_event p e) (notes (patience_after p e) events) (note.NotReady c) h)
   where
     here : (k : ℕ) × ((e ≡ Miss k c) × (p ≡ Some 0)) → Look p (e ∷ events) c
     here m = record { pass = m.0; before = []; later = events; miss = ap (λ a. a ∷ events) m.1.0; spent = m.1.1 }
@@ -102,14 +102,14 @@ look_in p (e ∷ events) c h = choose (λ m. look_in (patience_after p e) events
     on l = record { pass = l.pass; before = e ∷ l.before; later = l.later; miss = ap (λ es. e ∷ es) l.miss; spent = l.spent }
 
     choose : (Contains (notes (patience_after p e) events) (note.NotReady c) → Look (patience_after p e) events c)
-        → Contains (noted p e) (note.NotReady c) ⊎ Contains (notes (patience_after p e) events) (note.NotReady c) → Look p (e ∷ events) c
+        → Contains (notes_of_event p e) (note.NotReady c) ⊎ Contains (notes (patience_after p e) events) (note.NotReady c) → Look p (e ∷ events) c
     choose rest (inl m) = here (look_of p e c m)
     choose rest (inr m) = on (rest m)
 
 -- the notes of events that follow others
 notes-append : (p : Option ℕ) (xs ys : List Event) → notes p (xs ++ ys) ≡ notes p xs ++ notes (patience_left p xs) ys
 notes-append p [] ys = refl
-notes-append p (e ∷ xs) ys = ap (λ ns. noted p e ++ ns) (notes-append (patience_after p e) xs ys) ∙ sym (append_assoc (noted p e) (notes (patience_after p e) xs) (notes (patience_left (patience_after p e) xs) ys))
+notes-append p (e ∷ xs) ys = ap (λ ns. notes_of_event p e ++ ns) (notes-append (patience_after p e) xs ys) ∙ sym (append_assoc (notes_of_event p e) (notes (patience_after p e) xs) (notes (patience_left (patience_after p e) xs) ys))
 
 look_out : (p : Option ℕ) (events : List Event) (c : ℕ) → Look p events c → Contains (notes p events) (note.NotReady c)
 look_out p events c l =
@@ -167,7 +167,7 @@ note_of s events c f = look_out (patience s) events c (record { pass = f.pass; b
 -- what is noted as read is a read
 reads_in : (p : Option ℕ) (events : List Event) (c i x : ℕ) → Contains (notes p events) (note.Read c i x) → (k : ℕ) × Contains events (event.Read k c i x)
 reads_in p [] c i x h = nothing (note.Read c i x) h
-reads_in p (e ∷ events) c i x h = choose (λ m. reads_in (patience_after p e) events c i x m) (Contains-append_cases (noted p e) (notes (patience_after p e) events) (note.Read c i x) h)
+reads_in p (e ∷ events) c i x h = choose (λ m. reads_in (patience_after p e) events c i x m) (Contains-append_cases (notes_of_event p e) (notes (patience_after p e) events) (note.Read c i x) h)
   where
     here : (k : ℕ) × (e ≡ event.Read k c i x) → (k : ℕ) × Contains (e ∷ events) (event.Read k c i x)
     here m = (m.0, (0, omega arith, m.1))
@@ -176,19 +176,19 @@ reads_in p (e ∷ events) c i x h = choose (λ m. reads_in (patience_after p e) 
     on m = (m.0, Contains-append_right (e ∷ []) events (event.Read m.0 c i x) m.1)
 
     choose : (Contains (notes (patience_after p e) events) (note.Read c i x) → (k : ℕ) × Contains events (event.Read k c i x))
-        → Contains (noted p e) (note.Read c i x) ⊎ Contains (notes (patience_after p e) events) (note.Read c i x) → (k : ℕ) × Contains (e ∷ events) (event.Read k c i x)
+        → Contains (notes_of_event p e) (note.Read c i x) ⊎ Contains (notes (patience_after p e) events) (note.Read c i x) → (k : ℕ) × Contains (e ∷ events) (event.Read k c i x)
     choose rest (inl m) = here (read_of p e c i x m)
     choose rest (inr m) = on (rest m)
 
 -- and a read is noted
 reads_out : (p : Option ℕ) (events : List Event) (k c i x : ℕ) → Contains events (event.Read k c i x) → Contains (notes p events) (note.Read c i x)
 reads_out p [] k c i x h = nothing (event.Read k c i x) h
-reads_out p (e ∷ events) k c i x (zero, lt, at) = subst (λ d. Contains (noted p d ++ notes (patience_after p d) events) (note.Read c i x)) (sym at) (read_first p)
+reads_out p (e ∷ events) k c i x (zero, lt, at) = subst (λ d. Contains (notes_of_event p d ++ notes (patience_after p d) events) (note.Read c i x)) (sym at) (read_first p)
   where
-    read_first : (q : Option ℕ) → Contains (noted q (event.Read k c i x) ++ notes (patience_after q (event.Read k c i x)) events) (note.Read c i x)
+    read_first : (q : Option ℕ) → Contains (notes_of_event q (event.Read k c i x) ++ notes (patience_after q (event.Read k c i x)) events) (note.Read c i x)
     read_first q = first (note.Read c i x) (notes (patience_after q (event.Read k c i x)) events)
 reads_out p (e ∷ events) k c i x (suc j, lt, at) =
-    Contains-append_right (noted p e) (notes (patience_after p e) events) (note.Read c i x) (reads_out (patience_after p e) events k c i x (j, omega (arith, lt), at))
+    Contains-append_right (notes_of_event p e) (notes (patience_after p e) events) (note.Read c i x) (reads_out (patience_after p e) events k c i x (j, omega (arith, lt), at))
 
 pub are_noted : (s : Strategy) (events : List Event) → AreNoted s events
 are_noted s events = record {

@@ -3,6 +3,7 @@ pub mod Looks
 pub mod Moment
 pub mod Notes
 pub mod Painted
+pub mod Shows
 pub mod Painting
 pub mod Picture
 pub mod Pixel

@@ -1,15 +1,12 @@
 -- Not-ready looks.
 use Rattle.std.specs.Prelude.{◌≡◌, ℕ, ◌≤◌, Bool, true, false, List, ◌∷◌, ◌++◌, count_by}
 use Rattle.arr_history.specs.declared.event.Event.{Event}
-use Rattle.arr_history.specs.declared.event.Event.TheVariants.{Miss, Live}
+use Rattle.arr_history.specs.declared.event.Event.TheVariants.{Miss}
+pub use Rattle.arr_history.specs.Tally.{is_load}
 use Rattle.scale_pick.specs.declared.strategy.Strategy.{Strategy}
 use Rattle.scale_pick.specs.declared.strategy.Strategy.TheVariants.{Blocking, Budgeted, Volatile, DontLoad}
 
 -- how many cells these events loaded
-abbrev pub is_load : Event → Bool
-is_load (Live k c s) = true
-is_load other = false
-
 abbrev pub loads_in : List Event → ℕ
 loads_in events = count_by is_load events
 

@@ -1,13 +1,12 @@
 -- The number that a voxel had at a moment.
-use Rattle.std.specs.Prelude.{◌≡◌, ◌⊎◌, ℕ, IsTrue, List, ◌++◌}
+use Rattle.std.specs.Prelude.{◌≡◌, ℕ, IsTrue, List, ◌++◌}
 use Rattle.arr_history.specs.declared.event.Event.{Event}
 use Rattle.arr_history.specs.Shape.{Shape}
 use Rattle.arr_history.specs.State.{State}
 use Rattle.arr_history.specs.History.{after, LeadTo, mine}
 use Rattle.cell_grid.specs.declared.level.Level.{Level}
 use Rattle.scale_pick.specs.declared.view.View.{View}
-use Rattle.scale_pick.specs.Shade.{shown}
-use Rattle.scale_pick.specs.Pixel.{HasVoxel, IsOutside}
+use Rattle.scale_pick.specs.Shows.{ShowsBy}
 
 -- These events of a pass lead from one state to another, with events of other passes between them.
 pub record LeadAmong (b : Shape) (k : ℕ) (s : State) (events : List Event) (t : State) : Type 0 where
@@ -24,6 +23,4 @@ pub record HadAmong (b : Shape) (s : State) (all : List Event) (cell at number :
 
 -- a pixel shows a number that its voxel had at a moment while these events happened, or 0 outside the level
 abbrev pub ShowsMoment : List Level → View → Shape → State → List Event → ℕ → ℕ → ℕ → ℕ → Type 0
-ShowsMoment levels view b s all x y level value =
-    (IsOutside levels view.affine level x y × (value ≡ 0))
-    ⊎ ((cell : ℕ) × (at : ℕ) × (number : ℕ) × HasVoxel levels view.affine level x y cell at × HadAmong b s all cell at number × (value ≡ shown number view.low view.high))
+ShowsMoment levels view b s all x y level value = ShowsBy (HadAmong b s all) levels view x y level value

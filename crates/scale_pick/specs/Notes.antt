@@ -20,15 +20,15 @@ patience_after (Some loads) (Live k c s) = Some (loads - 1)
 patience_after p other = p
 
 -- what an event notes
-abbrev pub noted : Option ℕ → Event → List Note
-noted p (Read k c i x) = note.Read c i x ∷ []
-noted (Some zero) (Miss k c) = note.NotReady c ∷ []
-noted p other = []
+abbrev pub notes_of_event : Option ℕ → Event → List Note
+notes_of_event p (Read k c i x) = note.Read c i x ∷ []
+notes_of_event (Some zero) (Miss k c) = note.NotReady c ∷ []
+notes_of_event p other = []
 
 -- what events note, one after another
 abbrev pub notes : Option ℕ → List Event → List Note
 notes p [] = []
-notes p (e ∷ events) = noted p e ++ notes (patience_after p e) events
+notes p (e ∷ events) = notes_of_event p e ++ notes (patience_after p e) events
 
 -- what is left of the patience after events
 abbrev pub patience_left : Option ℕ → List Event → Option ℕ

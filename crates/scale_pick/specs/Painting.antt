@@ -4,9 +4,9 @@ use Rattle.cell_grid.specs.declared.level.Level.{Level}
 use Rattle.scale_pick.specs.declared.view.View.{View}
 use Rattle.scale_pick.specs.declared.note.Note.{Note}
 use Rattle.scale_pick.specs.declared.note.Note.TheVariants as note
-use Rattle.scale_pick.specs.Shade.{shown}
-use Rattle.scale_pick.specs.Pixel.{HasVoxel, IsOutside}
+use Rattle.scale_pick.specs.Pixel.{HasVoxel}
 use Rattle.scale_pick.specs.Picture.{Pixels, place}
+use Rattle.scale_pick.specs.Shows.{ShowsBy}
 use Rattle.scale_pick.specs.Wanted.{wanted_level}
 
 -- a pixel's voxel is inside a level, and its cell was found not ready
@@ -15,9 +15,7 @@ IsMissed levels view notes x y level = (cell : ℕ) × (at : ℕ) × HasVoxel le
 
 -- a pixel shows what was read of its voxel, or 0 outside the level
 abbrev pub Shows : List Level → View → List Note → ℕ → ℕ → ℕ → ℕ → Type 0
-Shows levels view notes x y level value =
-    (IsOutside levels view.affine level x y × (value ≡ 0))
-    ⊎ ((cell : ℕ) × (at : ℕ) × (number : ℕ) × HasVoxel levels view.affine level x y cell at × Contains notes (note.Read cell at number) × (value ≡ shown number view.low view.high))
+Shows levels view notes x y level value = ShowsBy (λ cell at number. Contains notes (note.Read cell at number)) levels view x y level value
 
 -- the levels from one on, before another, were found not ready
 abbrev pub AreMissed : List Level → View → List Note → ℕ → ℕ → ℕ → ℕ → Type 0

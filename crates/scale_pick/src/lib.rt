@@ -21,6 +21,3 @@ pub use picture::{Memory, Picture};
 pub use shade::{Shades, shown};
 pub use strategy::Strategy;
 pub use view::View;
-
-#[cfg(test)]
-mod tests;

@@ -21,13 +21,14 @@ use Rattle.sole_cache.specs.Room.{IsLowestFree, IsFull, IsVictim}
 use Rattle.sole_cache.specs.Moves.{Runs}
 use Rattle.sole_cache.specs.Handle.{Handle}
 use Rattle.sole_cache.specs.Pieces.{IsCaused, IsReplacedBy}
-use Rattle.sole_cache.specs.Acquires.{refusal_by, refusal_of_put, Drops, HoldsUp, IsAcquire, Acquires}
-use Rattle.sole_cache.specs.Asked.{IsGot, leaving_calls, IsReplaced}
+use Rattle.sole_cache.specs.Acquires.{acquire_refusal_by, refusal_of_put, Drops, HoldsUp, IsAcquire, Acquires}
+use Rattle.sole_cache.specs.Asked.{IsCellGot, leaving_calls, IsReplaced}
 use Rattle.sole_cache.proofs.Composed.{runs_on}
+use Rattle.cell_store.specs.Store.{held_of}
 
 -- a cache with other counts
 abbrev pub counted : Cached → Tally → Cached
-counted c tally = record { levels = c.levels; keys = c.keys; shown = c.shown; table = c.table; slots = c.slots; order = c.order; tally = tally }
+counted c tally = record { levels = c.levels; keys = c.keys; shown = c.shown; table = c.table; slots = c.slots; order = c.order; tally = tally; unsaved = c.unsaved }
 
 -- an acquire that isn't refused because every slot is pinned
 refused : (c : Cached) (n : ℕ) (err : AcquireErr) (events : List Event) (calls : List StoreCall) → (err ≡ refusal.Full → ⊥) → Drops c n err events calls ⊎ HoldsUp c n err events calls → IsAcquire c n (Err err) events calls
@@ -38,7 +39,7 @@ refused c n (refusal.TooLong edited len limit) events calls other h = h
 refused c n refusal.Full events calls other h = absurd (other refl)
 refused c n refusal.Memory events calls other h = h
 
-not_full : (cause : FetchErr) (err : AcquireErr) → err ≡ refusal_by cause → err ≡ refusal.Full → ⊥
+not_full : (cause : FetchErr) (err : AcquireErr) → err ≡ acquire_refusal_by cause → err ≡ refusal.Full → ⊥
 not_full fetching.ReadFault err e f = cc
 not_full (fetching.Malformed edited broken) err e f = cc
 not_full (fetching.TooLong edited len limit) err e f = cc
@@ -58,14 +59,14 @@ acquired_hit a d n i h live is runs shown valid = subst (λ h. (events : List Ev
 -- a load into the lowest free slot, after a miss
 pub acquired_free : (a b d : Cached) (tally : Tally) (n i : ℕ) (r : Result Handle AcquireErr) → b ≡ counted a tally → slot_of a n ≡ None → IsLowestFree a.slots (Some i) → Runs a (event.Miss 0 n ∷ []) b
     → IfOk r (λ h. h ≡ record { cell = n; slot = i; loaded = true }) → OnOk r (Runs b (event.Claim 0 n ∷ event.Live 0 n i ∷ []) d) → OnErr r (Runs b (event.Claim 0 n ∷ event.Drop 0 n ∷ []) d)
-    → (gets : List StoreCall) × IsGot b n r gets × AreCalled gets b.shown d.shown → IsCache d → (events : List Event) × (calls : List StoreCall) × Acquires a n r events calls d
-acquired_free a b d tally n i r same absent lowest miss handle loaded dropped (gets, got, called) valid = go r handle loaded dropped (subst (λ x. IsGot x n r gets) same got)
+    → (gets : List StoreCall) × IsCellGot b n r gets × AreCalled gets b.shown d.shown → IsCache d → (events : List Event) × (calls : List StoreCall) × Acquires a n r events calls d
+acquired_free a b d tally n i r same absent lowest miss handle loaded dropped (gets, got, called) valid = go r handle loaded dropped (subst (λ x. IsCellGot x n r gets) same got)
   where
     all : AreCalled gets a.shown d.shown
     all = subst (λ x. AreCalled gets x d.shown) (ap (λ (x : Cached). x.shown) same) called
 
     go : (r : Result Handle AcquireErr) → IfOk r (λ h. h ≡ record { cell = n; slot = i; loaded = true }) → OnOk r (Runs b (event.Claim 0 n ∷ event.Live 0 n i ∷ []) d) → OnErr r (Runs b (event.Claim 0 n ∷ event.Drop 0 n ∷ []) d)
-        → IsGot (counted a tally) n r gets → (events : List Event) × (calls : List StoreCall) × Acquires a n r events calls d
+        → IsCellGot (counted a tally) n r gets → (events : List Event) × (calls : List StoreCall) × Acquires a n r events calls d
     go (Ok h) handle loaded dropped got = subst (λ h. (events : List Event) × (calls : List StoreCall) × Acquires a n (Ok h) events calls d) (sym handle) (
       event.Miss 0 n ∷ event.Claim 0 n ∷ event.Live 0 n i ∷ [],
       gets,
@@ -168,13 +169,13 @@ unfolding refusal_of
 refusal_same levels keys n h k same = ap (λ x. refused_by levels n x (k (base_key levels keys n))) (same (edited_key levels n)) ∙ ap (refused_by levels n (h (edited_key levels n))) (same (base_key levels keys n))
 
 -- and so it is after steps that put nothing
-pub refused_now : (b d : Cached) (n : ℕ) (err : FetchErr) → Runs b (event.Claim 0 n ∷ event.Drop 0 n ∷ []) d → IsTrue (store_of b n).told → refusal_of b.levels b.keys (store_of b n).held n ≡ Some err
-    → refusal_of d.levels d.keys (store_of d n).held n ≡ Some err
+pub refused_now : (b d : Cached) (n : ℕ) (err : FetchErr) → Runs b (event.Claim 0 n ∷ event.Drop 0 n ∷ []) d → IsTrue (store_of b n).told → refusal_of b.levels b.keys (held_of (store_of b n)) n ≡ Some err
+    → refusal_of d.levels d.keys (held_of (store_of d n)) n ≡ Some err
 refused_now b d n err runs told is =
     let stores = runs.moves.stores in
     let at : store_of d n ≡ store_in d.shown (lane_of n (length b.shown)) = ap (λ l. store_in d.shown (lane_of n l)) stores.lanes in
-    let same : (key : List ℕ) → (store_of d n).held key ≡ (store_of b n).held key = λ key. ap (λ (s : Rattle.cell_store.specs.Store.Contents). s.held key) at ∙ stores.kept (lane_of n (length b.shown)) key told (λ m _ _ _. refl) in
-    refusal_same d.levels d.keys n (store_of b n).held (store_of d n).held same ∙ ap (λ l. refusal_of l d.keys (store_of b n).held n) runs.moves.levels ∙ ap (λ k. refusal_of b.levels k (store_of b n).held n) runs.moves.keys ∙ is
+    let same : (key : List ℕ) → (held_of (store_of d n)) key ≡ (held_of (store_of b n)) key = λ key. ap (λ (s : Rattle.cell_store.specs.Store.Contents). (held_of s) key) at ∙ stores.kept (lane_of n (length b.shown)) key told (λ m _ _ _. refl) in
+    refusal_same d.levels d.keys n (held_of (store_of b n)) (held_of (store_of d n)) same ∙ ap (λ l. refusal_of l d.keys (held_of (store_of b n)) n) runs.moves.levels ∙ ap (λ k. refusal_of b.levels k (held_of (store_of b n)) n) runs.moves.keys ∙ is
 
 -- the count of a store's faults never falls, and a store that tells goes on to tell
 pub falls : (a b : Cached) (n : ℕ) (events : List Event) → Runs a events b → (store_of a n).faults ≤ (store_of b n).faults

@@ -11,7 +11,7 @@ use Rattle.arr_history.specs.State.{State, with_at}
 use Rattle.arr_history.specs.Next.{leaving}
 use Rattle.arr_history.specs.History.{after}
 use Rattle.arr_history.specs.Laws.{puts}
-use Rattle.arr_history.specs.Tally.{is_hit, is_miss, is_load, is_gone, is_writeback, cut, raised}
+use Rattle.arr_history.specs.Tally.{is_hit, is_miss, is_load, is_gone, is_writeback, cut, tally_raised}
 use Rattle.arr_history.proofs.Sound.{at_cases}
 use Rattle.arr_history.proofs.Claims.{claims_come_first, claims_stand_round}
 use Rattle.arr_history.proofs.Counts.{same_tallies}
@@ -124,5 +124,5 @@ runs_claim_round a d c v ne inside absent l = record {
     counts p h k = count_round p (event.Claim 0 c) (event.Close 0 v) (event.Back 0 v) (event.Drop 0 c) h k
 
 -- a leaving is counted as what is gone
-pub gone_tally : (t : Tally) (v : ℕ) (m : Bool) → raised t (event.Gone 0 v m ∷ []) [] ≡ raised t (event.Close 0 v ∷ event.Gone 0 v m ∷ []) []
+pub gone_tally : (t : Tally) (v : ℕ) (m : Bool) → tally_raised t (event.Gone 0 v m ∷ []) [] ≡ tally_raised t (event.Close 0 v ∷ event.Gone 0 v m ∷ []) []
 gone_tally t v m = refl

@@ -14,7 +14,7 @@ use Rattle.arr_history.specs.Shape.{Shape}
 use Rattle.arr_history.specs.Next.{next}
 use Rattle.arr_history.specs.History.{after, IsSame}
 use Rattle.arr_history.specs.Laws.{puts}
-use Rattle.arr_history.specs.Tally.{raised, AreUncounted}
+use Rattle.arr_history.specs.Tally.{tally_raised, AreUncounted}
 use Rattle.arr_history.proofs.Leads.{same_next, composes, shape_trans}
 use Rattle.arr_history.proofs.Counts.{count_by-append, raised_more, raised_none}
 use Rattle.sole_cache.specs.Cached.{Cached, store_in, store_of, state_of, shape_of}
@@ -113,7 +113,7 @@ moves_on a b d p q l m = record {
 pub runs_on : (a b d : Cached) (p q : List Event) → Runs a p b → Runs b q d → Runs a (p ++ q) d
 runs_on a b d p q l m = record {
   moves = moves_on a b d p q l.moves m.moves;
-  tally = m.tally ∙ ap (λ t. raised t q []) l.tally ∙ raised_more a.tally p q;
+  tally = m.tally ∙ ap (λ t. tally_raised t q []) l.tally ∙ raised_more a.tally p q;
 }
 
 uncounted_none : AreUncounted []

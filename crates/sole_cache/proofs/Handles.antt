@@ -6,12 +6,13 @@ use Rattle.arr_history.specs.declared.tally.Tally.{Tally}
 use Rattle.arr_history.specs.declared.event.Event.{Event}
 use Rattle.arr_history.specs.declared.event.Event.TheVariants as event
 use Rattle.arr_history.proofs.Counts.{raised_none}
-use Rattle.sole_cache.specs.Slot.{SlotValue, no_slot, slot_in, with_pins, loaded_with, emptied}
+use Rattle.sole_cache.specs.Slot.{SlotValue, no_slot, slot_in, slot_with_pins, loaded_with, emptied}
 use Rattle.sole_cache.specs.Cached.{Cached, slot_of, slot_at}
 use Rattle.sole_cache.specs.Valid.{IsCache}
 use Rattle.sole_cache.specs.Handle.{Handle, IsHandleOf}
 use Rattle.sole_cache.specs.Moves.{Moves, Runs}
 use Rattle.sole_cache.proofs.Still.{uncounted_back}
+use Rattle.arr_history.specs.declared.closed.Unsaved.{Unsaved}
 
 -- the pins of all slots
 abbrev pub all_pins : List SlotValue → ℕ
@@ -20,11 +21,11 @@ all_pins slots = sum_by (λ (s : SlotValue). s.pins) slots
 pub pins_changed : (slots : List SlotValue) (i : ℕ) (t : SlotValue) → i < length slots → all_pins (slice_set slots i t) + (slot_in slots i).pins ≡ all_pins slots + t.pins
 pins_changed slots i t lt = sum_by-set (λ (s : SlotValue). s.pins) slots i t no_slot lt
 
-pub pins_more : (slots : List SlotValue) (i : ℕ) → i < length slots → all_pins (slice_set slots i (with_pins (slot_in slots i) ((slot_in slots i).pins + 1))) ≡ all_pins slots + 1
-pins_more slots i lt = let h = pins_changed slots i (with_pins (slot_in slots i) ((slot_in slots i).pins + 1)) lt in omega (arith, h)
+pub pins_more : (slots : List SlotValue) (i : ℕ) → i < length slots → all_pins (slice_set slots i (slot_with_pins (slot_in slots i) ((slot_in slots i).pins + 1))) ≡ all_pins slots + 1
+pins_more slots i lt = let h = pins_changed slots i (slot_with_pins (slot_in slots i) ((slot_in slots i).pins + 1)) lt in omega (arith, h)
 
-pub pins_fewer : (slots : List SlotValue) (i : ℕ) → i < length slots → 0 < (slot_in slots i).pins → all_pins slots ≡ all_pins (slice_set slots i (with_pins (slot_in slots i) ((slot_in slots i).pins - 1))) + 1
-pins_fewer slots i lt some = let h = pins_changed slots i (with_pins (slot_in slots i) ((slot_in slots i).pins - 1)) lt in omega (arith, h, some)
+pub pins_fewer : (slots : List SlotValue) (i : ℕ) → i < length slots → 0 < (slot_in slots i).pins → all_pins slots ≡ all_pins (slice_set slots i (slot_with_pins (slot_in slots i) ((slot_in slots i).pins - 1))) + 1
+pins_fewer slots i lt some = let h = pins_changed slots i (slot_with_pins (slot_in slots i) ((slot_in slots i).pins - 1)) lt in omega (arith, h, some)
 
 pub pins_loaded : (slots : List SlotValue) (i n : ℕ) (frame : List ℕ) → i < length slots → (slot_in slots i).pins ≡ 0 → all_pins (slice_set slots i (loaded_with n frame)) ≡ all_pins slots + 1
 pins_loaded slots i n frame lt none = let h = pins_changed slots i (loaded_with n frame) lt in omega (arith, h, none)
@@ -60,9 +61,9 @@ handle_placed d n i slots t lt is live some loaded = record {
 pub others_same : (slots : List SlotValue) (i : ℕ) (t : SlotValue) (j : ℕ) → j ≢ i → slot_in (slice_set slots i t) j ≡ slot_in slots j
 others_same slots i t j ne = get_or-set_other slots i j t no_slot ne
 
--- the counts alone changed
-pub cache_counted : (c : Cached) (tally : Tally) → IsCache c → IsTally tally → IsCache (record { levels = c.levels; keys = c.keys; shown = c.shown; table = c.table; slots = c.slots; order = c.order; tally = tally })
-cache_counted c tally valid fits = record {
+-- the counts and the cells named alone changed
+pub cache_counted : (c : Cached) (tally : Tally) (unsaved : List Unsaved) → IsCache c → IsTally tally → IsCache (record { levels = c.levels; keys = c.keys; shown = c.shown; table = c.table; slots = c.slots; order = c.order; tally = tally; unsaved = unsaved })
+cache_counted c tally unsaved valid fits = record {
   counted = fits;
   fitted = record {
     pyramid = valid.fitted.pyramid;
@@ -79,8 +80,8 @@ cache_counted c tally valid fits = record {
   clean = valid.clean;
 }
 
-pub moves_counted : (a b : Cached) (events : List Event) (tally : Tally) → Moves a events b → Moves a events (record { levels = b.levels; keys = b.keys; shown = b.shown; table = b.table; slots = b.slots; order = b.order; tally = tally })
-moves_counted a b events tally m = record {
+pub moves_counted : (a b : Cached) (events : List Event) (tally : Tally) (unsaved : List Unsaved) → Moves a events b → Moves a events (record { levels = b.levels; keys = b.keys; shown = b.shown; table = b.table; slots = b.slots; order = b.order; tally = tally; unsaved = unsaved })
+moves_counted a b events tally unsaved m = record {
   levels = m.levels;
   keys = m.keys;
   shape = record { cells = m.shape.cells; slots = m.shape.slots; voxels = m.shape.voxels; greatest = m.shape.greatest; told = m.shape.told; void = m.shape.void };

@@ -10,7 +10,7 @@ use Rattle.arr_history.specs.declared.tally.Tally.{Tally}
 use Rattle.arr_history.proofs.Lists.{set_cases}
 use Rattle.sole_cache.specs.Slot.{SlotValue, no_slot, slot_in, emptied}
 use Rattle.sole_cache.specs.Cached.{Cached, slot_at, handles_out}
-use Rattle.sole_cache.specs.Valid.{IsCache, IsKept}
+use Rattle.sole_cache.specs.Valid.{IsCache, IsFrameKept}
 use Rattle.sole_cache.specs.Room.{pinned}
 
 -- the slots that have a pin, where one changed
@@ -21,11 +21,11 @@ flags_stay : (slots : List SlotValue) (flags : List Bool) (i : ℕ) (t : SlotVal
 flags_stay slots flags i t e h = e ∙ sym (map-set_same (λ (s : SlotValue). nat_lt 0 s.pins) slots i t no_slot (ap (nat_lt 0) h))
 
 -- A slot changed that has a cell, as it had or not.
-pub kept_set : (c : Cached) (flags : List Bool) (from : ℕ) (spare put : List ℕ) (room_for : ℕ) → IsKept c flags from spare put room_for
+pub kept_set : (c : Cached) (flags : List Bool) (from : ℕ) (spare put : List ℕ) (room_for : ℕ) → IsFrameKept c flags from spare put room_for
     → (i : ℕ) (t : SlotValue) (b : Bool) (table : List (Option ℕ)) (shown : List Contents) (order : Order) (tally : Tally) (frame : List ℕ)
     → i < length c.slots → t.cell ≢ None → b ≡ nat_lt 0 t.pins → length frame ≡ length spare
-    → IsCache (record { levels = c.levels; keys = c.keys; shown = shown; table = table; slots = slice_set c.slots i t; order = order; tally = tally })
-    → IsKept (record { levels = c.levels; keys = c.keys; shown = shown; table = table; slots = slice_set c.slots i t; order = order; tally = tally }) (slice_set flags i b) from frame put room_for
+    → IsCache (record { levels = c.levels; keys = c.keys; shown = shown; table = table; slots = slice_set c.slots i t; order = order; tally = tally; unsaved = c.unsaved })
+    → IsFrameKept (record { levels = c.levels; keys = c.keys; shown = shown; table = table; slots = slice_set c.slots i t; order = order; tally = tally; unsaved = c.unsaved }) (slice_set flags i b) from frame put room_for
 kept_set c flags from spare put room_for k i t b table shown order tally frame inside some flag size valid = record {
   cache = valid;
   flags_are = flags_set c.slots flags i t b k.flags_are flag;
@@ -37,11 +37,11 @@ kept_set c flags from spare put room_for k i t b table shown order tally frame i
 }
 
 -- A slot's value changed, and its pins didn't.
-pub kept_value : (c : Cached) (flags : List Bool) (from : ℕ) (spare put : List ℕ) (room_for : ℕ) → IsKept c flags from spare put room_for
+pub kept_value : (c : Cached) (flags : List Bool) (from : ℕ) (spare put : List ℕ) (room_for : ℕ) → IsFrameKept c flags from spare put room_for
     → (i : ℕ) (t : SlotValue) (shown : List Contents) (order : Order) (tally : Tally)
     → i < length c.slots → t.cell ≡ (slot_at c i).cell → t.pins ≡ (slot_at c i).pins
-    → IsCache (record { levels = c.levels; keys = c.keys; shown = shown; table = c.table; slots = slice_set c.slots i t; order = order; tally = tally })
-    → IsKept (record { levels = c.levels; keys = c.keys; shown = shown; table = c.table; slots = slice_set c.slots i t; order = order; tally = tally }) flags from spare put room_for
+    → IsCache (record { levels = c.levels; keys = c.keys; shown = shown; table = c.table; slots = slice_set c.slots i t; order = order; tally = tally; unsaved = c.unsaved })
+    → IsFrameKept (record { levels = c.levels; keys = c.keys; shown = shown; table = c.table; slots = slice_set c.slots i t; order = order; tally = tally; unsaved = c.unsaved }) flags from spare put room_for
 kept_value c flags from spare put room_for k i t shown order tally inside cell pins valid = record {
   cache = valid;
   flags_are = flags_stay c.slots flags i t k.flags_are pins;
@@ -53,11 +53,11 @@ kept_value c flags from spare put room_for k i t shown order tally inside cell p
 }
 
 -- A slot without pins was emptied.
-pub kept_emptied : (c : Cached) (flags : List Bool) (from : ℕ) (spare put : List ℕ) (room_for : ℕ) → IsKept c flags from spare put room_for
+pub kept_emptied : (c : Cached) (flags : List Bool) (from : ℕ) (spare put : List ℕ) (room_for : ℕ) → IsFrameKept c flags from spare put room_for
     → (i : ℕ) (table : List (Option ℕ)) (shown : List Contents) (order : Order) (tally : Tally) (room : List ℕ)
     → i < length c.slots → (slot_at c i).pins ≡ 0 → length room ≡ length put
-    → IsCache (record { levels = c.levels; keys = c.keys; shown = shown; table = table; slots = slice_set c.slots i (emptied (slot_at c i)); order = order; tally = tally })
-    → IsKept (record { levels = c.levels; keys = c.keys; shown = shown; table = table; slots = slice_set c.slots i (emptied (slot_at c i)); order = order; tally = tally }) flags (min from i) spare room room_for
+    → IsCache (record { levels = c.levels; keys = c.keys; shown = shown; table = table; slots = slice_set c.slots i (emptied (slot_at c i)); order = order; tally = tally; unsaved = c.unsaved })
+    → IsFrameKept (record { levels = c.levels; keys = c.keys; shown = shown; table = table; slots = slice_set c.slots i (emptied (slot_at c i)); order = order; tally = tally; unsaved = c.unsaved }) flags (min from i) spare room room_for
 kept_emptied c flags from spare put room_for k i table shown order tally room inside none size valid = record {
   cache = valid;
   flags_are = flags_stay c.slots flags i (emptied (slot_at c i)) k.flags_are (sym none);
@@ -69,10 +69,10 @@ kept_emptied c flags from spare put room_for k i table shown order tally room in
 }
 
 -- The slots, the table and the pins stayed.
-pub kept_beside : (c : Cached) (flags : List Bool) (from : ℕ) (spare put : List ℕ) (room_for : ℕ) → IsKept c flags from spare put room_for
+pub kept_beside : (c : Cached) (flags : List Bool) (from : ℕ) (spare put : List ℕ) (room_for : ℕ) → IsFrameKept c flags from spare put room_for
     → (shown : List Contents) (order : Order) (tally : Tally) (frame room : List ℕ) → length frame ≡ length spare → length room ≡ length put
-    → IsCache (record { levels = c.levels; keys = c.keys; shown = shown; table = c.table; slots = c.slots; order = order; tally = tally })
-    → IsKept (record { levels = c.levels; keys = c.keys; shown = shown; table = c.table; slots = c.slots; order = order; tally = tally }) flags from frame room room_for
+    → IsCache (record { levels = c.levels; keys = c.keys; shown = shown; table = c.table; slots = c.slots; order = order; tally = tally; unsaved = c.unsaved })
+    → IsFrameKept (record { levels = c.levels; keys = c.keys; shown = shown; table = c.table; slots = c.slots; order = order; tally = tally; unsaved = c.unsaved }) flags from frame room room_for
 kept_beside c flags from spare put room_for k shown order tally frame room frame_size room_size valid = record {
   cache = valid;
   flags_are = k.flags_are;

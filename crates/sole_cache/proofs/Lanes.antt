@@ -2,11 +2,11 @@
 use Rattle.std.proofs.Common.{◌≡◌, ◌∙◌, ℕ, zero, suc, ◌<◌, ◌≤◌, true, false, IsTrue, List, [], ◌∷◌, ◌++◌, length, map, take, Option, Some, Result, Ok, Err, OnOk, OnErr, IfErr, if◌then◌else◌, slice_index_or, slice_set, get_or-set_same, refl, sym, ap, subst, arith}
 use Rattle.std.proofs.Math.Seq.{take-append_seam}
 use Rattle.std.proofs.lemmas.List.{map-set}
-use Rattle.cell_store.specs.Store.{Contents, SameElsewhere, put_in}
+use Rattle.cell_store.specs.Store.{Contents, SameElsewhere, put_in, held_of, untold}
 use Rattle.cell_file.specs.declared.errors.FetchErr.{FetchErr}
 use Rattle.cell_file.specs.declared.errors.SaveErr.{SaveErr}
 use Rattle.cell_file.specs.File.{put_entry, LogsFetch, LogsRefusedFetch, LogsRefusedSave}
-use Rattle.sole_cache.specs.Cached.{silent, store_in}
+use Rattle.sole_cache.specs.Cached.{store_in}
 use Rattle.sole_cache.specs.Moves.{Fetched, Saved}
 use Rattle.sole_cache.proofs.Logs.{same_key, fetch_log, fetch_got, refused_log, one_put, refused_put}
 
@@ -29,7 +29,7 @@ module _ {S : Type 0} (contents : S → Contents) where
   was_store (x ∷ xs) (suc i) s e lt = was_store xs i s e (omega (arith, lt))
 
   pub is_store : (xs : List S) (i : ℕ) (s : S) → i < length xs → store_in (map contents (slice_set xs i s)) i ≡ contents s
-  is_store xs i s lt = ap (λ l. slice_index_or l i silent) (map-set contents xs i s) ∙ get_or-set_same (map contents xs) i (contents s) silent (subst (λ k. i < k) (sym (map_length contents xs)) lt)
+  is_store xs i s lt = ap (λ l. slice_index_or l i (untold 0)) (map-set contents xs i s) ∙ get_or-set_same (map contents xs) i (contents s) (untold 0) (subst (λ k. i < k) (sym (map_length contents xs)) lt)
 
   pub one_store : (xs : List S) (i : ℕ) (s : S) → i < length xs → map contents (slice_set xs i s) ≡ slice_set (map contents xs) i (store_in (map contents (slice_set xs i s)) i)
   one_store xs i s lt = map-set contents xs i s ∙ ap (slice_set (map contents xs) i) (sym (is_store xs i s lt))
@@ -38,7 +38,7 @@ module _ {S : Type 0} (contents : S → Contents) where
 pub whole : (len : ℕ) (out rest : List ℕ) → length out ≡ len → take len (out ++ rest) ≡ out
 whole len out rest h = subst (λ k. take k (out ++ rest) ≡ out) h (take-append_seam out rest)
 
-pub fetched_ok : {X : Type 0} (r : Result X FetchErr) (key base : List ℕ) (old new : Contents) → new.told ≡ old.told → new.told_log ≡ old.told_log → old.faults ≤ new.faults → (IsTrue old.told → new.held ≡ old.held)
+pub fetched_ok : {X : Type 0} (r : Result X FetchErr) (key base : List ℕ) (old new : Contents) → new.told ≡ old.told → new.told_log ≡ old.told_log → old.faults ≤ new.faults → (IsTrue old.told → (held_of new) ≡ (held_of old))
     → (IsTrue old.told_log → OnOk r (LogsFetch old.log new.log key base)) → OnOk r (Fetched key true old new)
 fetched_ok (Ok x) key base old new told told_log never held logs = record {
   moves = record { told = told; told_log = told_log; never_falls = never };
@@ -49,7 +49,7 @@ fetched_ok (Ok x) key base old new told told_log never held logs = record {
 }
 fetched_ok (Err e) key base old new told told_log never held logs = tt
 
-pub fetched_err : {X : Type 0} (r : Result X FetchErr) (key base : List ℕ) (old new : Contents) → new.told ≡ old.told → new.told_log ≡ old.told_log → old.faults ≤ new.faults → (IsTrue old.told → new.held ≡ old.held)
+pub fetched_err : {X : Type 0} (r : Result X FetchErr) (key base : List ℕ) (old new : Contents) → new.told ≡ old.told → new.told_log ≡ old.told_log → old.faults ≤ new.faults → (IsTrue old.told → (held_of new) ≡ (held_of old))
     → (IsTrue old.told_log → IfErr r (λ err. LogsRefusedFetch old.log new.log key base err)) → OnErr r (Fetched key false old new)
 fetched_err (Ok x) key base old new told told_log never held logs = tt
 fetched_err (Err e) key base old new told told_log never held logs = record {
@@ -60,7 +60,7 @@ fetched_err (Err e) key base old new told told_log never held logs = record {
   got = λ f _. absurd (false_true f);
 }
 
-pub saved_ok : {X : Type 0} (r : Result X SaveErr) (key : List ℕ) (old new : Contents) → new.told ≡ old.told → new.told_log ≡ old.told_log → old.faults ≤ new.faults → (IsTrue old.told → SameElsewhere old.held new.held key)
+pub saved_ok : {X : Type 0} (r : Result X SaveErr) (key : List ℕ) (old new : Contents) → new.told ≡ old.told → new.told_log ≡ old.told_log → old.faults ≤ new.faults → (IsTrue old.told → SameElsewhere (held_of old) (held_of new) key)
     → (IsTrue old.told_log → OnOk r (new.log ≡ old.log ++ put_entry key true ∷ [])) → OnOk r (Saved key true old new)
 saved_ok (Ok x) key old new told told_log never held logs = record {
   moves = record { told = told; told_log = told_log; never_falls = never };
@@ -71,7 +71,7 @@ saved_ok (Ok x) key old new told told_log never held logs = record {
 }
 saved_ok (Err e) key old new told told_log never held logs = tt
 
-pub saved_err : {X : Type 0} (r : Result X SaveErr) (key : List ℕ) (old new : Contents) → new.told ≡ old.told → new.told_log ≡ old.told_log → old.faults ≤ new.faults → (IsTrue old.told → SameElsewhere old.held new.held key)
+pub saved_err : {X : Type 0} (r : Result X SaveErr) (key : List ℕ) (old new : Contents) → new.told ≡ old.told → new.told_log ≡ old.told_log → old.faults ≤ new.faults → (IsTrue old.told → SameElsewhere (held_of old) (held_of new) key)
     → (IsTrue old.told_log → IfErr r (λ err. LogsRefusedSave old.log new.log key err)) → OnErr r (Saved key false old new)
 saved_err (Ok x) key old new told told_log never held logs = tt
 saved_err (Err e) key old new told told_log never held logs = record {

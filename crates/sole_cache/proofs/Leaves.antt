@@ -4,8 +4,8 @@ use Rattle.std.specs.Option.{is_some}
 use Rattle.std.proofs.lemmas.List.{length-set, set-get_or}
 use Rattle.std.proofs.lemmas.Bool.{eqb-true}
 use Rattle.cell_grid.specs.Pyramid.{voxels_of, lane_of}
-use Rattle.cell_store.specs.Store.{Contents}
-use Rattle.recency.specs.Order.{Order, is_listed, left, touched}
+use Rattle.cell_store.specs.Store.{Contents, held_of}
+use Rattle.recency.specs.Order.{Order, is_listed, without_slot, touched}
 use Rattle.std.specs.List.{count_by, list_any}
 use Rattle.arr_history.specs.Laws.{puts}
 use Rattle.arr_history.specs.Tally.{IsTally}
@@ -20,7 +20,7 @@ use Rattle.arr_history.proofs.Lists.{set_cases}
 use Rattle.sole_cache.specs.Slot.{SlotValue, no_slot, slot_in, emptied}
 use Rattle.sole_cache.specs.Cached.{Cached, store_in, store_of, stands, slot_of, slot_at, state_at, pins_at, array_at, void_at, state_of, shape_of}
 use Rattle.cell_file.specs.Standing.{standing}
-use Rattle.sole_cache.specs.Value.{over, vacated}
+use Rattle.sole_cache.specs.Value.{with_shown, vacated}
 use Rattle.sole_cache.specs.Valid.{IsCache}
 use Rattle.sole_cache.specs.Turns.{touched_by, left_by}
 use Rattle.sole_cache.specs.Moves.{saves, loads, StoresMove, Moves, IsSaved}
@@ -38,7 +38,7 @@ no_pins false x e = refl
 pub record MayLeave (c : Cached) (n i : ℕ) (shown : List Contents) (order : Order) : Type 0 where
   pub live : slot_of c n ≡ Some i
   pub unpinned : (slot_at c i).pins ≡ 0
-  pub ordered : order ≡ left c.order i
+  pub ordered : order ≡ without_slot c.order i
   pub listed : (j : ℕ) → is_listed order j ≡ (not (i == j) && is_listed c.order j)
   pub same : SameElsewhere c n shown
   pub saved : IsTrue (store_of c n).told → stands_in c shown n ≡ Some (take (voxels_of c.levels n) (slot_at c i).frame)
@@ -155,10 +155,10 @@ module _ (c : Cached) (n i : ℕ) (shown : List Contents) (order : Order) (tally
 
   -- the cache with the order and the stores alone changed
   abbrev pub came_back : Cached
-  came_back = record { levels = c.levels; keys = c.keys; shown = shown; table = c.table; slots = c.slots; order = order; tally = tally }
+  came_back = record { levels = c.levels; keys = c.keys; shown = shown; table = c.table; slots = c.slots; order = order; tally = tally; unsaved = c.unsaved }
 
   is_back : kept c i (slot_at c i) shown order tally ≡ came_back
-  is_back = ap (λ slots. record { levels = c.levels; keys = c.keys; shown = shown; table = c.table; slots = slots; order = order; tally = tally }) (set-get_or c.slots i no_slot)
+  is_back = ap (λ slots. record { levels = c.levels; keys = c.keys; shown = shown; table = c.table; slots = slots; order = order; tally = tally; unsaved = c.unsaved }) (set-get_or c.slots i no_slot)
 
   pub cache_back : IsCache came_back
   cache_back = subst IsCache is_back (Rattle.sole_cache.proofs.Steps.cache_kept c n i (slot_at c i) shown order tally fits valid may_stay)
@@ -215,7 +215,7 @@ pub gone_puts : (n : ℕ) → list_any (puts n) (event.Close 0 n ∷ event.Gone 
 gone_puts n = ap (λ b. b || false) (test_same n n refl)
 
 -- A marked cell over stores that stand for the same of all others.
-pub cache_saved : (c : Cached) (n i : ℕ) (shown : List Contents) → IsCache c → slot_of c n ≡ Some i → (slot_at c i).marked ≡ true → SameElsewhere c n shown → IsCache (over c shown)
+pub cache_saved : (c : Cached) (n i : ℕ) (shown : List Contents) → IsCache c → slot_of c n ≡ Some i → (slot_at c i).marked ≡ true → SameElsewhere c n shown → IsCache (with_shown c shown)
 cache_saved c n i shown valid live marked same =
     let owned = valid.seated.in_slot n i live in
     let may : MayBecome c n i (slot_at c i) shown c.order = record {
@@ -228,17 +228,17 @@ cache_saved c n i shown valid live marked same =
       same = same;
       clean = λ told m. absurd (clash (sym marked ∙ m));
     } in
-    subst IsCache (ap (λ slots. record { levels = c.levels; keys = c.keys; shown = shown; table = c.table; slots = slots; order = c.order; tally = c.tally }) (set-get_or c.slots i no_slot))
+    subst IsCache (ap (λ slots. record { levels = c.levels; keys = c.keys; shown = shown; table = c.table; slots = slots; order = c.order; tally = c.tally; unsaved = c.unsaved }) (set-get_or c.slots i no_slot))
     (Rattle.sole_cache.proofs.Steps.cache_kept c n i (slot_at c i) shown c.order c.tally valid.counted valid may)
   where
     clash : true ≡ false → ⊥
     clash p = cc
 
 -- The stores stand for the frame that was put.
-pub saved_stands : (c : Cached) (n i : ℕ) (shown : List Contents) → IsSaved c n i shown → IsTrue (store_of (over c shown) n).told → stands (over c shown) n ≡ Some (take (voxels_of c.levels n) (slot_at c i).frame)
+pub saved_stands : (c : Cached) (n i : ℕ) (shown : List Contents) → IsSaved c n i shown → IsTrue (store_of (with_shown c shown) n).told → stands (with_shown c shown) n ≡ Some (take (voxels_of c.levels n) (slot_at c i).frame)
 saved_stands c n i shown s told =
     let lanes : length shown ≡ length c.shown = ap length s.one ∙ length-set c.shown (lane_of n (length c.shown)) (store_in shown (lane_of n (length c.shown))) in
-    subst (λ l. IsTrue (store_in shown (lane_of n l)).told → standing c.levels c.keys (store_in shown (lane_of n l)).held n ≡ Some (take (voxels_of c.levels n) (slot_at c i).frame)) (sym lanes)
+    subst (λ l. IsTrue (store_in shown (lane_of n l)).told → standing c.levels c.keys (held_of (store_in shown (lane_of n l))) n ≡ Some (take (voxels_of c.levels n) (slot_at c i).frame)) (sym lanes)
     (λ t. s.stood (subst IsTrue s.saved.moves.told t)) told
 
 -- what the order lists once a slot was left
@@ -256,7 +256,7 @@ pub left_unmarked : (c : Cached) (n i : ℕ) → IsCache c → slot_of c n ≡ S
     → Moves c (event.Close 0 n ∷ event.Gone 0 n (slot_at c i).marked ∷ []) (vacated c n i)
 left_unmarked c n i valid at none mark gone =
     let owned = valid.seated.in_slot n i at in
-    let may : MayLeave c n i c.shown (left c.order i) = record {
+    let may : MayLeave c n i c.shown (without_slot c.order i) = record {
       live = at;
       unpinned = none;
       ordered = refl;
@@ -264,30 +264,30 @@ left_unmarked c n i valid at none mark gone =
       same = same_stores c n;
       saved = λ told. valid.clean n i told at mark;
     } in
-    moves_gone c n i c.shown (left c.order i) c.tally valid.counted valid may
+    moves_gone c n i c.shown (without_slot c.order i) c.tally valid.counted valid may
     (stores_still c (vacated c n i) (event.Close 0 n ∷ event.Gone 0 n (slot_at c i).marked ∷ []) refl (λ m. unmarked_gone n m (slot_at c i).marked mark) (λ m. refl))
 
 -- A marked cell was put, and left.
-pub left_marked : (c : Cached) (n i : ℕ) (shown : List Contents) → IsCache c → slot_of c n ≡ Some i → (slot_at c i).pins ≡ 0 → (slot_at c i).marked ≡ true → IsSaved c n i shown → IsCache (vacated (over c shown) n i)
-    → Moves c (event.Close 0 n ∷ event.Gone 0 n (slot_at c i).marked ∷ []) (vacated (over c shown) n i)
+pub left_marked : (c : Cached) (n i : ℕ) (shown : List Contents) → IsCache c → slot_of c n ≡ Some i → (slot_at c i).pins ≡ 0 → (slot_at c i).marked ≡ true → IsSaved c n i shown → IsCache (vacated (with_shown c shown) n i)
+    → Moves c (event.Close 0 n ∷ event.Gone 0 n (slot_at c i).marked ∷ []) (vacated (with_shown c shown) n i)
 left_marked c n i shown valid at none mark s gone =
     let owned = valid.seated.in_slot n i at in
     let after : Contents = store_in shown (lane_of n (length c.shown)) in
     let range = in_range c n i valid at in
-    let may : MayLeave c n i shown (left c.order i) = record {
+    let may : MayLeave c n i shown (without_slot c.order i) = record {
       live = at;
       unpinned = none;
       ordered = refl;
-      listed = λ j. listed_left c (vacated (over c shown) n i) n i j valid gone owned.0 refl;
+      listed = λ j. listed_left c (vacated (with_shown c shown) n i) n i j valid gone owned.0 refl;
       same = saved_elsewhere c n after shown valid.fitted.some_stores valid.fitted.cells s.one s.saved.moves.told s.others;
       saved = λ told. saved_now told;
     } in
-    moves_gone c n i shown (left c.order i) c.tally valid.counted valid may
-    (subst (λ m. StoresMove c (event.Close 0 n ∷ event.Gone 0 n m ∷ []) (vacated (over c shown) n i)) (sym mark)
-    (saved_stores c (vacated (over c shown) n i) n true after (event.Close 0 n ∷ event.Gone 0 n true ∷ []) valid.fitted.some_stores range s.one s.saved (own_keys c.levels n valid.fitted.pyramid range)
+    moves_gone c n i shown (without_slot c.order i) c.tally valid.counted valid may
+    (subst (λ m. StoresMove c (event.Close 0 n ∷ event.Gone 0 n m ∷ []) (vacated (with_shown c shown) n i)) (sym mark)
+    (saved_stores c (vacated (with_shown c shown) n i) n true after (event.Close 0 n ∷ event.Gone 0 n true ∷ []) valid.fitted.some_stores range s.one s.saved (own_keys c.levels n valid.fitted.pyramid range)
     (λ m. gone_loads n m true) (gone_others n) (gone_here n) (gone_puts n)))
   where
-    saved_now : IsTrue (store_of c n).told → standing c.levels c.keys (store_in shown (lane_of n (length shown))).held n ≡ Some (take (voxels_of c.levels n) (slot_at c i).frame)
+    saved_now : IsTrue (store_of c n).told → standing c.levels c.keys (held_of (store_in shown (lane_of n (length shown)))) n ≡ Some (take (voxels_of c.levels n) (slot_at c i).frame)
     saved_now told =
         let lanes : length shown ≡ length c.shown = ap length s.one ∙ length-set c.shown (lane_of n (length c.shown)) (store_in shown (lane_of n (length c.shown))) in
-        subst (λ l. standing c.levels c.keys (store_in shown (lane_of n l)).held n ≡ Some (take (voxels_of c.levels n) (slot_at c i).frame)) (sym lanes) (s.stood told)
+        subst (λ l. standing c.levels c.keys (held_of (store_in shown (lane_of n l))) n ≡ Some (take (voxels_of c.levels n) (slot_at c i).frame)) (sym lanes) (s.stood told)

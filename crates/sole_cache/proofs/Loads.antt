@@ -8,7 +8,7 @@ use Rattle.cell_grid.specs.Kind.{greatest_of}
 use Rattle.cell_store.specs.Store.{Contents}
 use Rattle.recency.specs.Order.{Order, is_listed, admitted}
 use Rattle.std.specs.List.{count_by}
-use Rattle.arr_history.specs.Tally.{IsTally, raised}
+use Rattle.arr_history.specs.Tally.{IsTally, tally_raised}
 use Rattle.arr_history.specs.declared.tally.Tally.{Tally}
 use Rattle.arr_history.specs.declared.event.Event.TheVariants as event
 use Rattle.arr_history.specs.declared.cell_state.CellState.TheVariants as cell
@@ -18,7 +18,7 @@ use Rattle.arr_history.proofs.Sound.{at_cases}
 use Rattle.arr_history.proofs.Lists.{set_cases}
 use Rattle.sole_cache.specs.Slot.{SlotValue, no_slot, loaded_with}
 use Rattle.sole_cache.specs.Cached.{Cached, store_of, stands, slot_of, slot_at, state_at, pins_at, array_at, void_at, state_of}
-use Rattle.sole_cache.specs.Value.{over}
+use Rattle.sole_cache.specs.Value.{with_shown}
 use Rattle.sole_cache.specs.Valid.{IsCache}
 use Rattle.sole_cache.specs.Moves.{saves, loads, StoresMove, Moves}
 use Rattle.sole_cache.proofs.Places.{placed, stands_in, SameElsewhere, MayPlace, cache_placed, cells_placed, pins_are_placed, arrays_placed, shape_placed}
@@ -138,7 +138,7 @@ module _ (c : Cached) (n i : ℕ) (frame : List ℕ) (shown : List Contents) (or
               clash p = cc
 
 -- The cache over stores that stand for the same.
-pub cache_over : (c : Cached) (shown : List Contents) → IsCache c → SameStores c shown → IsCache (over c shown)
+pub cache_over : (c : Cached) (shown : List Contents) → IsCache c → SameStores c shown → IsCache (with_shown c shown)
 cache_over c shown valid same = record {
   counted = valid.counted;
   fitted = record {
@@ -157,8 +157,8 @@ cache_over c shown valid same = record {
 }
 
 -- A claim and its drop leave the state as it was, over stores that hold the same.
-pub moves_dropped : (c : Cached) (n : ℕ) (shown : List Contents) → IsCache c → n < length c.table → slot_of c n ≡ None → SameStores c shown → StoresMove c (event.Claim 0 n ∷ event.Drop 0 n ∷ []) (over c shown)
-    → Moves c (event.Claim 0 n ∷ event.Drop 0 n ∷ []) (over c shown)
+pub moves_dropped : (c : Cached) (n : ℕ) (shown : List Contents) → IsCache c → n < length c.table → slot_of c n ≡ None → SameStores c shown → StoresMove c (event.Claim 0 n ∷ event.Drop 0 n ∷ []) (with_shown c shown)
+    → Moves c (event.Claim 0 n ∷ event.Drop 0 n ∷ []) (with_shown c shown)
 moves_dropped c n shown valid inside absent same stores = record {
   levels = refl;
   keys = refl;
@@ -192,7 +192,7 @@ abbrev pub one_if : Bool → ℕ
 one_if b = 0 + cond b 1 0
 
 -- what a load and a dropped claim count
-pub loaded_tally : (t : Tally) (n i : ℕ) → raised t (event.Live 0 n i ∷ []) [] ≡ raised t (event.Claim 0 n ∷ event.Live 0 n i ∷ []) []
+pub loaded_tally : (t : Tally) (n i : ℕ) → tally_raised t (event.Live 0 n i ∷ []) [] ≡ tally_raised t (event.Claim 0 n ∷ event.Live 0 n i ∷ []) []
 loaded_tally t n i = refl
 
 pub load_saves : (n i m : ℕ) → count_by (saves m) (event.Claim 0 n ∷ event.Live 0 n i ∷ []) ≡ 0

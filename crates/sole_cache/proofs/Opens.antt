@@ -7,12 +7,12 @@ use Rattle.cell_grid.proofs.FrameLemmas.{frame_bounds}
 use Rattle.cell_store.specs.Store.{Contents}
 use Rattle.cell_file.specs.Keys.{KeyNames, AreKeys}
 use Rattle.cell_file.proofs.Widths.{bytes_le}
-use Rattle.recency.specs.Order.{opening}
+use Rattle.recency.specs.Order.{opening_order}
 use Rattle.arr_history.specs.declared.tally.Tally.{Tally}
 use Rattle.arr_history.specs.Tally.{tally_of}
 use Rattle.sole_cache.specs.Slot.{SlotValue, no_slot, slot_in}
 use Rattle.sole_cache.specs.Cached.{Cached, slot_of, slot_at, state_at, handles_out, stands}
-use Rattle.sole_cache.specs.Valid.{IsCache, IsKept}
+use Rattle.sole_cache.specs.Valid.{IsCache, IsFrameKept}
 use Rattle.sole_cache.specs.Room.{pinned}
 use Rattle.sole_cache.specs.Open.{free_slot, IsOpened}
 use Rattle.sole_cache.proofs.Steps.{none_some}
@@ -41,12 +41,13 @@ no_pins n f = Rattle.std.proofs.lemmas.List.Folds.sum_by-replicate (λ (s : Slot
 -- no cell is live, and nothing was counted
 abbrev pub fresh : List Level → KeyNames → List Contents → ℕ → Tally → Cached
 fresh levels keys shown slots tally = record {
+  unsaved = [];
   levels = levels;
   keys = keys;
   shown = shown;
   table = replicate (cells_of levels) None;
   slots = replicate slots (free_slot (frame_of levels));
-  order = opening slots;
+  order = opening_order slots;
   tally = tally;
 }
 
@@ -83,7 +84,7 @@ module _ (levels : List Level) (keys : KeyNames) (shown : List Contents) (slots 
       frame_at (suc n) zero lt = length-replicate (frame_of levels) 0
       frame_at (suc n) (suc i) lt = frame_at n i (omega (arith, lt))
 
-  pub kept_fresh : (spare put : List ℕ) (room : ℕ) → length spare ≡ frame_of levels → length put ≡ 16 + 8 * frame_of levels → slots ≤ room → IsKept (fresh levels keys shown slots tally) (replicate slots false) 0 spare put room
+  pub kept_fresh : (spare put : List ℕ) (room : ℕ) → length spare ≡ frame_of levels → length put ≡ 16 + 8 * frame_of levels → slots ≤ room → IsFrameKept (fresh levels keys shown slots tally) (replicate slots false) 0 spare put room
   kept_fresh spare put room spare_is put_is enough = record {
     cache = cache_fresh;
     flags_are = no_flags slots (frame_of levels);

@@ -5,7 +5,7 @@ use Rattle.std.proofs.lemmas.List.{length-set}
 use Rattle.std.proofs.lemmas.Bool.Decides.{nat_tests}
 use Rattle.cell_grid.specs.Pyramid.{voxels_of, kind_of, frame_of, lane_of}
 use Rattle.cell_grid.specs.Kind.{greatest_of}
-use Rattle.cell_store.specs.Store.{Contents}
+use Rattle.cell_store.specs.Store.{Contents, held_of}
 use Rattle.cell_file.specs.Standing.{standing}
 use Rattle.recency.specs.Order.{Order, is_listed}
 use Rattle.arr_history.specs.Tally.{IsTally}
@@ -22,11 +22,11 @@ use Rattle.sole_cache.specs.Valid.{IsFitted, IsSeated, IsFramed, IsCache}
 
 -- the cache with other contents of a slot, another slot of a cell, and other stores, order and counts
 abbrev pub placed : Cached → ℕ → ℕ → Option ℕ → SlotValue → List Contents → Order → Tally → Cached
-placed c n i o t shown order tally = record { levels = c.levels; keys = c.keys; shown = shown; table = slice_set c.table n o; slots = slice_set c.slots i t; order = order; tally = tally }
+placed c n i o t shown order tally = record { levels = c.levels; keys = c.keys; shown = shown; table = slice_set c.table n o; slots = slice_set c.slots i t; order = order; tally = tally; unsaved = c.unsaved }
 
 -- what a store stands for, of a list of stores
 abbrev pub stands_in : Cached → List Contents → ℕ → Option (List ℕ)
-stands_in c shown m = standing c.levels c.keys (store_in shown (lane_of m (length shown))).held m
+stands_in c shown m = standing c.levels c.keys (held_of (store_in shown (lane_of m (length shown)))) m
 
 -- stores that tell the same, and stand for the same of all cells but one
 pub record SameElsewhere (c : Cached) (n : ℕ) (shown : List Contents) : Type 0 where

@@ -25,7 +25,7 @@ use Rattle.sole_cache.specs.Moves.{Runs}
 use Rattle.sole_cache.specs.Handle.{Handle, IsHandleOf}
 use Rattle.sole_cache.specs.Pieces.{IsReplacedBy, IsCaused}
 use Rattle.sole_cache.specs.Acquires.{refusal_of_put}
-use Rattle.sole_cache.specs.Asked.{IsGot, IsTurnedOut, IsReplaced}
+use Rattle.sole_cache.specs.Asked.{IsCellGot, IsTurnedOut, IsReplaced}
 use Rattle.sole_cache.proofs.Composed.{runs_on}
 use Rattle.sole_cache.proofs.Claims.{runs_claim_first, runs_claim_round}
 use Rattle.sole_cache.proofs.Steps.{none_some, some_none}
@@ -61,7 +61,7 @@ fetch_same levels levels' keys keys' lanes lanes' n r calls l k s f =
     subst (λ m. AreFetch levels' keys' (lane_of n m) n r calls) s (subst (λ x. AreFetch levels' x (lane_of n lanes) n r calls) k (subst (λ x. AreFetch x keys (lane_of n lanes) n r calls) l f))
 
 -- what was got after events was got of the same store
-got_same : (a b : Cached) (n : ℕ) (events : List Event) (r : Result Handle AcquireErr) (calls : List StoreCall) → Runs a events b → IsGot b n r calls → IsGot a n r calls
+got_same : (a b : Cached) (n : ℕ) (events : List Event) (r : Result Handle AcquireErr) (calls : List StoreCall) → Runs a events b → IsCellGot b n r calls → IsCellGot a n r calls
 got_same a b n events (Ok h) calls runs got = fetch_same b.levels a.levels b.keys a.keys (length b.shown) (length a.shown) n (Ok tt) calls runs.moves.levels runs.moves.keys runs.moves.stores.lanes got
 got_same a b n events (Err e) calls runs (cause, fetched, is) =
     (cause, fetch_same b.levels a.levels b.keys a.keys (length b.shown) (length a.shown) n (Err cause) calls runs.moves.levels runs.moves.keys runs.moves.stores.lanes fetched, is)
@@ -69,7 +69,7 @@ got_same a b n events (Err e) calls runs (cause, fetched, is) =
 -- a cell left, and another was loaded in its place, or not
 pub replaced : (a b d : Cached) (n due i : ℕ) (r : Result Handle AcquireErr) → slot_of a n ≡ None → slot_of a due ≡ Some i → Runs a (event.Close 0 due ∷ event.Gone 0 due (slot_at a i).marked ∷ []) b
     → (puts : List StoreCall) × IsTurnedOut a due i (Ok tt) puts × AreCalled puts a.shown b.shown → IfOk r (λ h. h ≡ record { cell = n; slot = i; loaded = true })
-    → OnOk r (Runs b (event.Claim 0 n ∷ event.Live 0 n i ∷ []) d) → OnErr r (Runs b (event.Claim 0 n ∷ event.Drop 0 n ∷ []) d) → (gets : List StoreCall) × IsGot b n r gets × AreCalled gets b.shown d.shown
+    → OnOk r (Runs b (event.Claim 0 n ∷ event.Live 0 n i ∷ []) d) → OnErr r (Runs b (event.Claim 0 n ∷ event.Drop 0 n ∷ []) d) → (gets : List StoreCall) × IsCellGot b n r gets × AreCalled gets b.shown d.shown
     → (events : List Event) × (calls : List StoreCall) × IsReplaced a n due i r events calls × Runs a events d × AreCalled calls a.shown d.shown
 replaced a b d n due i r absent live gone (puts, turned, put) handle loaded dropped (gets, got, called) = go r handle loaded dropped got
   where
@@ -77,7 +77,7 @@ replaced a b d n due i r absent live gone (puts, turned, put) handle loaded drop
     all = called_on a.shown b.shown d.shown puts gets put called
 
     go : (r : Result Handle AcquireErr) → IfOk r (λ h. h ≡ record { cell = n; slot = i; loaded = true }) → OnOk r (Runs b (event.Claim 0 n ∷ event.Live 0 n i ∷ []) d) → OnErr r (Runs b (event.Claim 0 n ∷ event.Drop 0 n ∷ []) d)
-        → IsGot b n r gets → (events : List Event) × (calls : List StoreCall) × IsReplaced a n due i r events calls × Runs a events d × AreCalled calls a.shown d.shown
+        → IsCellGot b n r gets → (events : List Event) × (calls : List StoreCall) × IsReplaced a n due i r events calls × Runs a events d × AreCalled calls a.shown d.shown
     go (Ok h) handle loaded dropped got = (
       event.Claim 0 n ∷ event.Close 0 due ∷ event.Gone 0 due (slot_at a i).marked ∷ event.Live 0 n i ∷ [],
       puts ++ gets,

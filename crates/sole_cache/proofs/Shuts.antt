@@ -9,7 +9,7 @@ use Rattle.cell_file.specs.declared.errors.SaveErr.TheVariants as saving
 use Rattle.arr_history.specs.declared.closed.Unsaved.{Unsaved}
 use Rattle.arr_history.specs.declared.tally.Tally.{Tally}
 use Rattle.arr_history.specs.declared.event.Event.{Event}
-use Rattle.arr_history.specs.Tally.{is_hit, is_miss, is_load, is_gone, is_writeback, cut, raised}
+use Rattle.arr_history.specs.Tally.{is_hit, is_miss, is_load, is_gone, is_writeback, cut, tally_raised}
 use Rattle.arr_history.specs.declared.event.Event.TheVariants as event
 use Rattle.arr_history.proofs.Counts.{count_by-append, same_tallies, raised_none}
 use Rattle.sole_cache.specs.Slot.{SlotValue, no_slot, slot_in}
@@ -23,7 +23,7 @@ use Rattle.sole_cache.specs.Puts.{IsPutWhere, IsPutAt, IsPutSlot, ArePut}
 use Rattle.sole_cache.proofs.Puts.{put_more, put_gone, named}
 use Rattle.sole_cache.proofs.Composed.{runs_none, moves_on}
 use Rattle.sole_cache.proofs.Faults.{caused_before, caused_later, caused_both, none_failed, both_failed, one_failed}
-use Rattle.sole_cache.proofs.Handles.{moves_counted}
+use Rattle.sole_cache.proofs.Handles.{moves_counted, cache_counted}
 use Rattle.sole_cache.proofs.Kept.{few_pins}
 use Rattle.sole_cache.proofs.Still.{uncounted_back}
 use Rattle.sole_cache.proofs.Stood.{stood}
@@ -61,7 +61,7 @@ shut_twice p a xs ys = cut_cut (a + count_by p xs) (count_by p ys) ∙ ap cut (s
     shift : (a b c : ℕ) → (a + b) + c ≡ a + (b + c)
     shift a b c = omega arith
 
-pub shut_more : (t : Tally) (p q : List Event) → raised (raised t [] p) [] q ≡ raised t [] (p ++ q)
+pub shut_more : (t : Tally) (p q : List Event) → tally_raised (tally_raised t [] p) [] q ≡ tally_raised t [] (p ++ q)
 shut_more t p q = same_tallies _ _ _ _ _ _ _ _ _ _ _ _ (shut_twice is_hit t.hits p q) (shut_twice is_miss t.misses p q) (shut_twice is_load t.loads p q)
     (shut_twice is_gone t.evictions [] []) (shut_twice is_writeback t.writebacks p q) (shut_twice is_gone t.closed p q)
 
@@ -84,14 +84,14 @@ closes_none c i was valid none = record {
 -- of one whose cell is gone
 pub closes_gone : (c b : Cached) (i n : ℕ) (saved : Bool) (was : List Unsaved) → (slot_at c i).cell ≡ Some n → saved ≡ (slot_at c i).marked → Moves c (event.Close 0 n ∷ event.Gone 0 n (slot_at c i).marked ∷ []) b → b.tally ≡ c.tally
     → (calls : List StoreCall) × IsTurnedOut c n i (Ok tt) calls × AreCalled calls c.shown b.shown
-    → ClosesSlot c (record { levels = b.levels; keys = b.keys; shown = b.shown; table = b.table; slots = b.slots; order = b.order; tally = raised b.tally [] (event.Gone 0 n saved ∷ []) }) i was was
+    → ClosesSlot c (record { levels = b.levels; keys = b.keys; shown = b.shown; table = b.table; slots = b.slots; order = b.order; tally = tally_raised b.tally [] (event.Gone 0 n saved ∷ []); unsaved = b.unsaved }) i was was
 closes_gone c b i n saved was cell mark moves same (calls, turned, called) = record {
   events = event.Close 0 n ∷ event.Gone 0 n (slot_at c i).marked ∷ [];
   more = [];
   closed = subst (λ o. IsClosedAt (slot_at c i) o [] (event.Close 0 n ∷ event.Gone 0 n (slot_at c i).marked ∷ [])) (sym cell) (inl (refl, refl));
-  moves = moves_counted c b (event.Close 0 n ∷ event.Gone 0 n (slot_at c i).marked ∷ []) (raised b.tally [] (event.Gone 0 n saved ∷ [])) moves;
+  moves = moves_counted c b (event.Close 0 n ∷ event.Gone 0 n (slot_at c i).marked ∷ []) (tally_raised b.tally [] (event.Gone 0 n saved ∷ [])) b.unsaved moves;
   named = sym (append-nil was);
-  tally = ap (λ t. raised t [] (event.Gone 0 n saved ∷ [])) same ∙ ap (λ m. raised c.tally [] (event.Gone 0 n m ∷ [])) mark;
+  tally = ap (λ t. tally_raised t [] (event.Gone 0 n saved ∷ [])) same ∙ ap (λ m. tally_raised c.tally [] (event.Gone 0 n m ∷ [])) mark;
   caused = tt;
   licensed = none_failed c b (event.Close 0 n ∷ event.Gone 0 n (slot_at c i).marked ∷ []) moves.stores;
   calls = calls;
@@ -100,14 +100,15 @@ closes_gone c b i n saved was cell mark moves same (calls, turned, called) = rec
 }
 
 -- and of one whose cell came back
-pub closes_back : (c b : Cached) (i n : ℕ) (memory : Bool) (was : List Unsaved) → IsCache c → (slot_at c i).cell ≡ Some n → (slot_at c i).marked ≡ true → Moves c (event.Close 0 n ∷ event.Back 0 n ∷ []) b → b.tally ≡ c.tally
+pub closes_back : (c b : Cached) (i n : ℕ) (memory : Bool) (was unsaved : List Unsaved) → IsCache c → (slot_at c i).cell ≡ Some n → (slot_at c i).marked ≡ true → Moves c (event.Close 0 n ∷ event.Back 0 n ∷ []) b → b.tally ≡ c.tally
     → (memory ≡ false → Rose (store_of c n).faults (store_of b n).faults) → (cause : SaveErr) → (memory ≡ true → cause ≡ saving.Memory) → (memory ≡ false → cause ≡ saving.WriteFault)
-    → (calls : List StoreCall) × IsTurnedOut c n i (Err cause) calls × AreCalled calls c.shown b.shown → ClosesSlot c b i was (was ++ record { cell = n; memory = memory } ∷ [])
-closes_back c b i n memory was valid cell mark moves same rose cause wanting failed (calls, (answer, told, are), called) = record {
+    → (calls : List StoreCall) × IsTurnedOut c n i (Err cause) calls × AreCalled calls c.shown b.shown
+    → ClosesSlot c (record { levels = b.levels; keys = b.keys; shown = b.shown; table = b.table; slots = b.slots; order = b.order; tally = b.tally; unsaved = unsaved }) i was (was ++ record { cell = n; memory = memory } ∷ [])
+closes_back c b i n memory was unsaved valid cell mark moves same rose cause wanting failed (calls, (answer, told, are), called) = record {
   events = event.Close 0 n ∷ event.Back 0 n ∷ [];
   more = record { cell = n; memory = memory } ∷ [];
   closed = subst (λ o. IsClosedAt (slot_at c i) o (record { cell = n; memory = memory } ∷ []) (event.Close 0 n ∷ event.Back 0 n ∷ [])) (sym cell) (inr (mark, (memory, (refl, refl))));
-  moves = moves;
+  moves = moves_counted c b (event.Close 0 n ∷ event.Back 0 n ∷ []) b.tally unsaved moves;
   named = refl;
   tally = same ∙ sym (raised_none c.tally (event.Close 0 n ∷ event.Back 0 n ∷ []) valid.counted (uncounted_back n));
   caused = (rose, tt);
@@ -123,7 +124,7 @@ pub record ShutSoFar (start now : Cached) (unsaved : List Unsaved) (k : ℕ) : T
   pub events : List Event
   pub closed : AreClosed (take k start.slots) unsaved events
   pub moves : Moves start events now
-  pub tally : now.tally ≡ raised start.tally [] events
+  pub tally : now.tally ≡ tally_raised start.tally [] events
   pub others : (i : ℕ) → k ≤ i → slot_at now i ≡ slot_at start i
   pub size : length now.slots ≡ length start.slots
   pub valid : IsCache now
@@ -134,15 +135,15 @@ pub record ShutSoFar (start now : Cached) (unsaved : List Unsaved) (k : ℕ) : T
   pub puts : ArePut start.levels (length start.shown) (take k start.slots) unsaved calls
   pub begun : IsCache start
 
-pub shut_begun : (c : Cached) → IsCache c → ShutSoFar c c [] 0
+pub shut_begun : (c : Cached) → IsCache c → ShutSoFar c (record { levels = c.levels; keys = c.keys; shown = c.shown; table = c.table; slots = c.slots; order = c.order; tally = c.tally; unsaved = [] }) [] 0
 shut_begun c valid = record {
   events = [];
   closed = (refl, refl);
-  moves = (runs_none c valid).moves;
+  moves = moves_counted c c [] c.tally [] (runs_none c valid).moves;
   tally = (runs_none c valid).tally;
   others = λ _ _. refl;
   size = refl;
-  valid = valid;
+  valid = cache_counted c c.tally [] valid valid.counted;
   caused = tt;
   licensed = none_failed c c [] (runs_none c valid).moves.stores;
   calls = [];
@@ -157,7 +158,7 @@ shut_one a b d was is k lt far one others size valid = record {
   closed = subst (λ u. AreClosed (take (k + 1) a.slots) u (far.events ++ one.events)) (sym one.named)
       (closed_more a.slots k was one.more far.events one.events lt far.closed (subst (λ s. IsClosedSlot s one.more one.events) (far.others k (omega arith)) one.closed));
   moves = moves_on a b d far.events one.events far.moves one.moves;
-  tally = one.tally ∙ ap (λ t. raised t [] one.events) far.tally ∙ shut_more a.tally far.events one.events;
+  tally = one.tally ∙ ap (λ t. tally_raised t [] one.events) far.tally ∙ shut_more a.tally far.events one.events;
   others = λ i le. others i (λ e. absurd (omega (arith, le, e))) ∙ far.others i (omega (arith, le));
   size = size ∙ far.size;
   valid = valid;

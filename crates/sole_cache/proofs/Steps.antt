@@ -36,7 +36,7 @@ touched_slots o i = grind arith
 
 -- the cache with another value of a slot whose cell stays
 abbrev pub kept : Cached → ℕ → SlotValue → List Contents → Order → Tally → Cached
-kept c i t shown order tally = record { levels = c.levels; keys = c.keys; shown = shown; table = c.table; slots = slice_set c.slots i t; order = order; tally = tally }
+kept c i t shown order tally = record { levels = c.levels; keys = c.keys; shown = shown; table = c.table; slots = slice_set c.slots i t; order = order; tally = tally; unsaved = c.unsaved }
 
 -- what a slot may become whose cell stays
 pub record MayBecome (c : Cached) (n i : ℕ) (t : SlotValue) (shown : List Contents) (order : Order) : Type 0 where
@@ -78,7 +78,7 @@ module _ (c : Cached) (n i : ℕ) (t : SlotValue) (shown : List Contents) (order
   table_same = subst (λ o. slice_set c.table n o ≡ c.table) may.live (set-get_or c.table n None)
 
   is_kept : placed c n i (Some i) t shown order tally ≡ kept c i t shown order tally
-  is_kept = ap (λ table. record { levels = c.levels; keys = c.keys; shown = shown; table = table; slots = slice_set c.slots i t; order = order; tally = tally }) table_same
+  is_kept = ap (λ table. record { levels = c.levels; keys = c.keys; shown = shown; table = table; slots = slice_set c.slots i t; order = order; tally = tally; unsaved = c.unsaved }) table_same
 
   pub cache_kept : IsCache (kept c i t shown order tally)
   cache_kept = subst IsCache is_kept (cache_placed c n i (Some i) t shown order tally fits valid may_place)

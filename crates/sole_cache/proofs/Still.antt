@@ -12,7 +12,7 @@ use Rattle.arr_history.specs.Next.{marked}
 use Rattle.arr_history.specs.Legal.{IsLive, IsMarked}
 use Rattle.arr_history.proofs.Sound.{at_cases}
 use Rattle.arr_history.proofs.Lists.{set_cases, read_set}
-use Rattle.sole_cache.specs.Slot.{with_pins, with_value}
+use Rattle.sole_cache.specs.Slot.{slot_with_pins, slot_with_value}
 use Rattle.sole_cache.specs.Cached.{Cached, store_of, slot_of, slot_at, state_at, pins_at, array_at, state_of, shape_of}
 use Rattle.sole_cache.specs.Valid.{IsCache}
 use Rattle.sole_cache.specs.Turns.{touched_by}
@@ -27,7 +27,7 @@ same_stores c n = record { lanes = refl; told = λ _. refl; others = λ _ _ _ _.
 
 -- a slot may get other pins
 pub may_pin : (c : Cached) (n i pins : ℕ) (order : Order) → IsCache c → slot_of c n ≡ Some i → order.slots ≡ c.order.slots → ((j : ℕ) → is_listed order j ≡ is_listed c.order j)
-    → MayBecome c n i (with_pins (slot_at c i) pins) c.shown order
+    → MayBecome c n i (slot_with_pins (slot_at c i) pins) c.shown order
 may_pin c n i pins order valid live ordered listed =
     let owned = valid.seated.in_slot n i live in
     record {
@@ -46,9 +46,9 @@ pub in_range : (c : Cached) (n i : ℕ) → IsCache c → slot_of c n ≡ Some i
 in_range c n i valid live = subst (λ k. n < k) valid.fitted.cells (valid.seated.in_table i n (valid.seated.in_slot n i live).1).0
 
 pub moves_pin : (c : Cached) (n i : ℕ) (order : Order) (tally : Tally) → IsTally tally → IsCache c → slot_of c n ≡ Some i → order ≡ touched c.order i → order.slots ≡ c.order.slots → ((j : ℕ) → is_listed order j ≡ is_listed c.order j)
-    → Moves c (event.Pin 0 n ∷ []) (kept c i (with_pins (slot_at c i) ((slot_at c i).pins + 1)) c.shown order tally)
+    → Moves c (event.Pin 0 n ∷ []) (kept c i (slot_with_pins (slot_at c i) ((slot_at c i).pins + 1)) c.shown order tally)
 moves_pin c n i order tally fits valid live is ordered listed =
-    let t = with_pins (slot_at c i) ((slot_at c i).pins + 1) in
+    let t = slot_with_pins (slot_at c i) ((slot_at c i).pins + 1) in
     let may = may_pin c n i ((slot_at c i).pins + 1) order valid live ordered listed in
     let now = live_now c n i t c.shown order tally fits valid may in
     record {
@@ -68,9 +68,9 @@ moves_pin c n i order tally fits valid live is ordered listed =
     }
 
 pub moves_unpin : (c : Cached) (n i : ℕ) (tally : Tally) → IsTally tally → IsCache c → slot_of c n ≡ Some i → 0 < (slot_at c i).pins
-    → Moves c (event.Unpin 0 n ∷ []) (kept c i (with_pins (slot_at c i) ((slot_at c i).pins - 1)) c.shown c.order tally)
+    → Moves c (event.Unpin 0 n ∷ []) (kept c i (slot_with_pins (slot_at c i) ((slot_at c i).pins - 1)) c.shown c.order tally)
 moves_unpin c n i tally fits valid live some =
-    let t = with_pins (slot_at c i) ((slot_at c i).pins - 1) in
+    let t = slot_with_pins (slot_at c i) ((slot_at c i).pins - 1) in
     let may = may_pin c n i ((slot_at c i).pins - 1) c.order valid live refl (λ _. refl) in
     let now = live_now c n i t c.shown c.order tally fits valid may in
     record {
@@ -90,7 +90,7 @@ moves_unpin c n i tally fits valid live some =
     }
 
 -- a slot may be written
-pub may_write : (c : Cached) (n i at x : ℕ) → IsCache c → slot_of c n ≡ Some i → at < length (slot_at c i).frame → x ≤ greatest_of (kind_of c.levels n) → MayBecome c n i (with_value (slot_at c i) at x) c.shown c.order
+pub may_write : (c : Cached) (n i at x : ℕ) → IsCache c → slot_of c n ≡ Some i → at < length (slot_at c i).frame → x ≤ greatest_of (kind_of c.levels n) → MayBecome c n i (slot_with_value (slot_at c i) at x) c.shown c.order
 may_write c n i at x valid live inside small =
     let owned = valid.seated.in_slot n i live in
     record {
@@ -108,9 +108,9 @@ may_write c n i at x valid live inside small =
     true_false e = cc
 
 pub moves_write : (c : Cached) (n i at x : ℕ) (tally : Tally) → IsTally tally → IsCache c → slot_of c n ≡ Some i → 0 < (slot_at c i).pins → at < voxels_of c.levels n → at < length (slot_at c i).frame → x ≤ greatest_of (kind_of c.levels n)
-    → Moves c (event.Mark 0 n ∷ event.Write 0 n at x ∷ []) (kept c i (with_value (slot_at c i) at x) c.shown c.order tally)
+    → Moves c (event.Mark 0 n ∷ event.Write 0 n at x ∷ []) (kept c i (slot_with_value (slot_at c i) at x) c.shown c.order tally)
 moves_write c n i at x tally fits valid live some within inside small =
-    let t = with_value (slot_at c i) at x in
+    let t = slot_with_value (slot_at c i) at x in
     let may = may_write c n i at x valid live inside small in
     let now = live_now c n i t c.shown c.order tally fits valid may in
     let range = in_range c n i valid live in
@@ -136,18 +136,18 @@ moves_write c n i at x tally fits valid live some within inside small =
       stores = stores_still c _ (event.Mark 0 n ∷ event.Write 0 n at x ∷ []) refl (λ _. refl) (λ _. refl);
     }
   where
-    written : (y : ℕ) → with_at ((state_of c).arrays n) at x y ≡ (state_of (kept c i (with_value (slot_at c i) at x) c.shown c.order tally)).arrays n y
+    written : (y : ℕ) → with_at ((state_of c).arrays n) at x y ≡ (state_of (kept c i (slot_with_value (slot_at c i) at x) c.shown c.order tally)).arrays n y
     written y = ap (λ o. with_at (λ z. slice_index (array_at c.slots o (Rattle.sole_cache.specs.Cached.stands c n)) z) at x y) live ∙ read_set (λ z. z) (slot_at c i).frame at x y 0 inside
-        ∙ sym (frame_kept c n i (with_value (slot_at c i) at x) c.shown c.order tally fits valid (may_write c n i at x valid live inside small) y)
+        ∙ sym (frame_kept c n i (slot_with_value (slot_at c i) at x) c.shown c.order tally fits valid (may_write c n i at x valid live inside small) y)
 
-    rows : (k m : ℕ) → (state_of c).pins k m ≡ (state_of (kept c i (with_value (slot_at c i) at x) c.shown c.order tally)).pins k m
+    rows : (k m : ℕ) → (state_of c).pins k m ≡ (state_of (kept c i (slot_with_value (slot_at c i) at x) c.shown c.order tally)).pins k m
     rows k m = at_cases (λ (f : ℕ → ℕ). (state_of c).pins k m ≡ f m) (state_of c).pins 0 (with_at ((state_of c).pins 0) n (slot_at c i).pins) k
         (λ e. subst (λ z. (state_of c).pins z m ≡ with_at ((state_of c).pins 0) n (slot_at c i).pins m) e (same_at ((state_of c).pins 0) n (slot_at c i).pins (ap (pins_at c.slots) (sym live)) m)) (λ _. refl)
-        ∙ pins_kept c n i (with_value (slot_at c i) at x) c.shown c.order tally fits valid (may_write c n i at x valid live inside small) k m
+        ∙ pins_kept c n i (slot_with_value (slot_at c i) at x) c.shown c.order tally fits valid (may_write c n i at x valid live inside small) k m
 
 -- a miss changes nothing but the counts
 pub moves_miss : (c : Cached) (n : ℕ) (tally : Tally) → IsCache c → n < length c.table → slot_of c n ≡ None
-    → Moves c (event.Miss 0 n ∷ []) (record { levels = c.levels; keys = c.keys; shown = c.shown; table = c.table; slots = c.slots; order = c.order; tally = tally })
+    → Moves c (event.Miss 0 n ∷ []) (record { levels = c.levels; keys = c.keys; shown = c.shown; table = c.table; slots = c.slots; order = c.order; tally = tally; unsaved = c.unsaved })
 moves_miss c n tally valid inside absent = record {
   levels = refl;
   keys = refl;

@@ -7,7 +7,7 @@ use Rattle.std.proofs.lemmas.Bool.{eqb-true, false_from_ne_true}
 use Rattle.std.proofs.lemmas.Bool.Decides.{nat_tests}
 use Rattle.cell_grid.specs.declared.level.Level.{Level}
 use Rattle.cell_grid.specs.Pyramid.{cells_of, lane_of, IsPyramid}
-use Rattle.cell_store.specs.Store.{Contents}
+use Rattle.cell_store.specs.Store.{Contents, held_of, untold}
 use Rattle.std.proofs.lemmas.Slice.Eq.{bytes_eq-Decides}
 use Rattle.cell_file.proofs.KeyLemmas.{one_edited_key}
 use Rattle.cell_file.specs.Keys.{edited_key}
@@ -15,8 +15,8 @@ use Rattle.cell_file.specs.Standing.{standing}
 use Rattle.arr_history.specs.declared.event.Event.{Event}
 use Rattle.arr_history.specs.Laws.{puts}
 use Rattle.arr_history.proofs.Lists.{set_cases}
-use Rattle.sole_cache.specs.Cached.{Cached, silent, store_in, store_of}
-use Rattle.sole_cache.specs.Value.{over}
+use Rattle.sole_cache.specs.Cached.{Cached, store_in, store_of}
+use Rattle.sole_cache.specs.Value.{with_shown}
 use Rattle.sole_cache.proofs.Places.{SameElsewhere}
 use Rattle.sole_cache.specs.Moves.{is_put, is_get, saves, loads, StoreMoves, StoresMove, Fetched, Saved}
 
@@ -25,7 +25,7 @@ store_stays s = record { told = refl; told_log = refl; never_falls = omega arith
 
 -- stores that stayed as they were, by events that neither save nor load
 pub stores_still : (c d : Cached) (events : List Event) → d.shown ≡ c.shown → ((n : ℕ) → count_by (saves n) events ≡ 0) → ((n : ℕ) → count_by (loads n) events ≡ 0) → StoresMove c events d
-stores_still c d events same saved loaded = subst (λ shown. StoresMove c events (over d shown)) (sym same) (record {
+stores_still c d events same saved loaded = subst (λ shown. StoresMove c events (with_shown d shown)) (sym same) (record {
   lanes = refl;
   each = λ lane. store_stays (store_in c.shown lane);
   kept = λ lane key told none. refl;
@@ -41,7 +41,7 @@ module _ (c : Cached) (n : ℕ) (after : Contents) (some : 0 < length c.shown) w
 
   -- the store of each cell is the changed one, or what it was
   pub store_cases : (P : Contents → Type 0) (l : ℕ) → (lane_of n (length c.shown) ≡ l → P after) → ((lane_of n (length c.shown) ≡ l → ⊥) → P (store_in c.shown l)) → P (store_in (slice_set c.shown (lane_of n (length c.shown)) after) l)
-  store_cases P l here there = set_cases P c.shown (lane_of n (length c.shown)) after l silent lane_in here there
+  store_cases P l here there = set_cases P c.shown (lane_of n (length c.shown)) after l (untold 0) lane_in here there
 
 -- the number of a cell's store, in a list with one store changed
 at_lane : (c : Cached) (n m : ℕ) (after : Contents) (P : Contents → Type 0) → 0 < length c.shown
@@ -54,11 +54,11 @@ at_lane c n m after P some here there = subst (λ l. P (store_in (slice_set c.sh
 pub fetched_stores : (c d : Cached) (n : ℕ) (gave : Bool) (after : Contents) (events : List Event) → 0 < length c.shown → d.shown ≡ slice_set c.shown (lane_of n (length c.shown)) after
     → Fetched (edited_key c.levels n) gave (store_of c n) after → ((m : ℕ) → count_by (saves m) events ≡ 0) → ((m : ℕ) → (n ≡ m → ⊥) → count_by (loads m) events ≡ 0)
     → count_by (loads n) events ≡ cond gave 1 0 → StoresMove c events d
-fetched_stores c d n gave after events some is f saved others loaded = subst (λ shown. StoresMove c events (over d shown)) (sym is) (record {
+fetched_stores c d n gave after events some is f saved others loaded = subst (λ shown. StoresMove c events (with_shown d shown)) (sym is) (record {
   lanes = length-set c.shown (lane_of n (length c.shown)) after;
   each = λ l. store_cases c n after some (λ s. StoreMoves (store_in c.shown l) s) l (λ e. subst (λ k. StoreMoves (store_in c.shown k) after) e f.moves) (λ _. store_stays (store_in c.shown l));
-  kept = λ l key told none. store_cases c n after some (λ s. s.held key ≡ (store_in c.shown l).held key) l
-      (λ e. subst (λ k. IsTrue (store_in c.shown k).told → after.held key ≡ (store_in c.shown k).held key) e (λ t. ap (λ h. h key) (f.held t)) told) (λ _. refl);
+  kept = λ l key told none. store_cases c n after some (λ s. (held_of s) key ≡ (held_of (store_in c.shown l)) key) l
+      (λ e. subst (λ k. IsTrue (store_in c.shown k).told → (held_of after) key ≡ (held_of (store_in c.shown k)) key) e (λ t. ap (λ h. h key) (f.held t)) told) (λ _. refl);
   put_count = λ m lt told. at_lane c n m after (λ s. count_by (is_put (edited_key c.levels m)) s.log ≡ count_by (is_put (edited_key c.levels m)) (store_of c m).log + count_by (saves m) events) some
       (λ e. subst (λ k. IsTrue (store_in c.shown k).told_log → count_by (is_put (edited_key c.levels m)) after.log ≡ count_by (is_put (edited_key c.levels m)) (store_in c.shown k).log + count_by (saves m) events) e
       (λ t. let a = f.no_put (edited_key c.levels m) t in let b = saved m in omega (arith, a, b)) told)
@@ -87,11 +87,11 @@ fetched_stores c d n gave after events some is f saved others loaded = subst (λ
 pub saved_stores : (c d : Cached) (n : ℕ) (done : Bool) (after : Contents) (events : List Event) → 0 < length c.shown → n < cells_of c.levels → d.shown ≡ slice_set c.shown (lane_of n (length c.shown)) after
     → Saved (edited_key c.levels n) done (store_of c n) after → ((m : ℕ) → m < cells_of c.levels → (n ≡ m → ⊥) → bytes_eq (edited_key c.levels n) (edited_key c.levels m) ≡ false)
     → ((m : ℕ) → count_by (loads m) events ≡ 0) → ((m : ℕ) → (n ≡ m → ⊥) → count_by (saves m) events ≡ 0) → count_by (saves n) events ≡ cond done 1 0 → list_any (puts n) events ≡ true → StoresMove c events d
-saved_stores c d n done after events some inside is f own loaded others saved put = subst (λ shown. StoresMove c events (over d shown)) (sym is) (record {
+saved_stores c d n done after events some inside is f own loaded others saved put = subst (λ shown. StoresMove c events (with_shown d shown)) (sym is) (record {
   lanes = length-set c.shown (lane_of n (length c.shown)) after;
   each = λ l. store_cases c n after some (λ s. StoreMoves (store_in c.shown l) s) l (λ e. subst (λ k. StoreMoves (store_in c.shown k) after) e f.moves) (λ _. store_stays (store_in c.shown l));
-  kept = λ l key told none. store_cases c n after some (λ s. s.held key ≡ (store_in c.shown l).held key) l
-      (λ e. subst (λ k. IsTrue (store_in c.shown k).told → after.held key ≡ (store_in c.shown k).held key) e (λ t. f.held t key (other_key l key e none)) told) (λ _. refl);
+  kept = λ l key told none. store_cases c n after some (λ s. (held_of s) key ≡ (held_of (store_in c.shown l)) key) l
+      (λ e. subst (λ k. IsTrue (store_in c.shown k).told → (held_of after) key ≡ (held_of (store_in c.shown k)) key) e (λ t. f.held t key (other_key l key e none)) told) (λ _. refl);
   put_count = λ m lt told. at_lane c n m after (λ s. count_by (is_put (edited_key c.levels m)) s.log ≡ count_by (is_put (edited_key c.levels m)) (store_of c m).log + count_by (saves m) events) some
       (λ e. subst (λ k. IsTrue (store_in c.shown k).told_log → count_by (is_put (edited_key c.levels m)) after.log ≡ count_by (is_put (edited_key c.levels m)) (store_in c.shown k).log + count_by (saves m) events) e (λ t. done_puts m lt t) told)
       (λ ne. let b = others m (λ nm. ne (ap (λ k. lane_of k (length c.shown)) nm)) in omega (arith, b));
@@ -123,7 +123,7 @@ saved_stores c d n done after events some inside is f own loaded others saved pu
 pub record SameStores (c : Cached) (shown : List Contents) : Type 0 where
   pub lanes : length shown ≡ length c.shown
   pub told : (m : ℕ) → (store_in shown (lane_of m (length shown))).told ≡ (store_of c m).told
-  pub stands : (m : ℕ) → IsTrue (store_of c m).told → standing c.levels c.keys (store_in shown (lane_of m (length shown))).held m ≡ standing c.levels c.keys (store_of c m).held m
+  pub stands : (m : ℕ) → IsTrue (store_of c m).told → standing c.levels c.keys (held_of (store_in shown (lane_of m (length shown)))) m ≡ standing c.levels c.keys (held_of (store_of c m)) m
 
 -- whether the store of a cell tells is the same where one store changed
 told_same : (c : Cached) (n : ℕ) (after : Contents) → 0 < length c.shown → after.told ≡ (store_of c n).told → (m : ℕ)
@@ -135,18 +135,18 @@ pub fetched_same : (c : Cached) (n : ℕ) (gave : Bool) (after : Contents) (show
 fetched_same c n gave after shown some is f = subst (SameStores c) (sym is) (record {
   lanes = length-set c.shown (lane_of n (length c.shown)) after;
   told = told_same c n after some f.moves.told;
-  stands = λ m told. at_lane c n m after (λ s. standing c.levels c.keys s.held m ≡ standing c.levels c.keys (store_of c m).held m) some
-      (λ e. subst (λ k. IsTrue (store_in c.shown k).told → standing c.levels c.keys after.held m ≡ standing c.levels c.keys (store_in c.shown k).held m) e (λ t. ap (λ h. standing c.levels c.keys h m) (f.held t)) told) (λ _. refl);
+  stands = λ m told. at_lane c n m after (λ s. standing c.levels c.keys (held_of s) m ≡ standing c.levels c.keys (held_of (store_of c m)) m) some
+      (λ e. subst (λ k. IsTrue (store_in c.shown k).told → standing c.levels c.keys (held_of after) m ≡ standing c.levels c.keys (held_of (store_in c.shown k)) m) e (λ t. ap (λ h. standing c.levels c.keys h m) (f.held t)) told) (λ _. refl);
 })
 
 -- Stores after a put: they stand for the same of all cells but one.
 pub saved_elsewhere : (c : Cached) (n : ℕ) (after : Contents) (shown : List Contents) → 0 < length c.shown → length c.table ≡ cells_of c.levels → shown ≡ slice_set c.shown (lane_of n (length c.shown)) after
-    → after.told ≡ (store_of c n).told → (IsTrue (store_of c n).told → (m : ℕ) → m < cells_of c.levels → m ≢ n → standing c.levels c.keys after.held m ≡ standing c.levels c.keys (store_of c n).held m) → SameElsewhere c n shown
+    → after.told ≡ (store_of c n).told → (IsTrue (store_of c n).told → (m : ℕ) → m < cells_of c.levels → m ≢ n → standing c.levels c.keys (held_of after) m ≡ standing c.levels c.keys (held_of (store_of c n)) m) → SameElsewhere c n shown
 saved_elsewhere c n after shown some cells is told others = subst (SameElsewhere c n) (sym is) (record {
   lanes = length-set c.shown (lane_of n (length c.shown)) after;
   told = told_same c n after some told;
-  others = λ m lt ne t. at_lane c n m after (λ s. standing c.levels c.keys s.held m ≡ standing c.levels c.keys (store_of c m).held m) some
-      (λ e. subst (λ k. IsTrue (store_in c.shown k).told → standing c.levels c.keys after.held m ≡ standing c.levels c.keys (store_in c.shown k).held m) e (λ u. others u m (subst (λ k. m < k) cells lt) (λ mn. ne (sym mn))) t) (λ _. refl);
+  others = λ m lt ne t. at_lane c n m after (λ s. standing c.levels c.keys (held_of s) m ≡ standing c.levels c.keys (held_of (store_of c m)) m) some
+      (λ e. subst (λ k. IsTrue (store_in c.shown k).told → standing c.levels c.keys (held_of after) m ≡ standing c.levels c.keys (held_of (store_in c.shown k)) m) e (λ u. others u m (subst (λ k. m < k) cells lt) (λ mn. ne (sym mn))) t) (λ _. refl);
 })
 
 -- The edited keys of two cells differ.

@@ -1,8 +1,7 @@
 -- What a call does, with its calls of the stores.
-use Rattle.std.specs.Prelude.{◌≡◌, ◌⊎◌, ℕ, ◌<◌, ◌≤◌, true, cond, List, [], ◌∷◌, ◌++◌, length, take, Option, None, Some, Result}
+use Rattle.std.specs.Prelude.{◌≡◌, ◌⊎◌, ℕ, true, cond, List, [], ◌∷◌, ◌++◌, length, take, Option, None, Some, Result}
 use Rattle.std.specs.declared.result.Result.TheVariants as outcome
-use Rattle.cell_grid.specs.Kind.{greatest_of}
-use Rattle.cell_grid.specs.Pyramid.{lane_of, voxels_of, kind_of, IsVoxelOf}
+use Rattle.cell_grid.specs.Pyramid.{lane_of, voxels_of}
 use Rattle.cell_store.specs.declared.store.Put.{Put}
 use Rattle.cell_store.specs.declared.store.Put.TheVariants as put
 use Rattle.store_calls.specs.Calls.{StoreCall, AreCalled}
@@ -12,16 +11,17 @@ use Rattle.cell_file.specs.declared.errors.FetchErr.TheVariants as fetching
 use Rattle.cell_file.specs.declared.errors.AcquireErr.{AcquireErr}
 use Rattle.cell_file.specs.declared.errors.AcquireErr.TheVariants as refusal
 use Rattle.cell_file.specs.declared.errors.CellErr.{CellErr}
-use Rattle.cell_file.specs.declared.errors.CellErr.TheVariants as cell_err
 use Rattle.arr_history.specs.declared.cell_state.Seen.{Seen}
 use Rattle.arr_history.specs.declared.event.Event.{Event}
-use Rattle.arr_history.specs.declared.event.Event.TheVariants.{Miss, Unpin, Mark, Read, Write, Claim, Drop, Live, Close, Gone, Back}
+use Rattle.arr_history.specs.declared.event.Event.TheVariants.{Miss}
+use Rattle.call_events.specs.Pieces.{turning_out, loading, dropping, holding_up}
+use Rattle.call_events.specs.Voxels.{Gets, Sets}
 use Rattle.sole_cache.specs.Cached.{Cached, slot_of, slot_at}
 use Rattle.sole_cache.specs.Room.{IsFull, IsLowestFree, IsVictim}
 use Rattle.sole_cache.specs.Valid.{IsCache}
 use Rattle.sole_cache.specs.Handle.{Handle}
 use Rattle.sole_cache.specs.Moves.{Runs}
-use Rattle.sole_cache.specs.Pieces.{IsHit, IsLook, IsOutside}
+use Rattle.sole_cache.specs.Pieces.{IsHit, IsLook}
 
 -- the number of the store of a cell
 abbrev pub lane_at : Cached → ℕ → ℕ
@@ -35,7 +35,7 @@ put_call c n slot answer = save_call c.levels (lane_at c n) n (take (voxels_of c
 abbrev pub MakesRoom : Cached → ℕ → List Event → List StoreCall → Type 0
 MakesRoom c slot turn calls =
     (IsLowestFree c.slots (Some slot) × (turn ≡ []) × (calls ≡ []))
-    ⊎ ((v : ℕ) × IsVictim c slot v × (turn ≡ Close 0 v ∷ Gone 0 v (slot_at c slot).marked ∷ []) × (calls ≡ cond (slot_at c slot).marked (put_call c v slot put.Done ∷ []) []))
+    ⊎ ((v : ℕ) × IsVictim c slot v × (turn ≡ turning_out 0 v (slot_at c slot).marked) × (calls ≡ cond (slot_at c slot).marked (put_call c v slot put.Done ∷ []) []))
 
 -- The cell wasn't live, and was loaded into the slot that was due.
 pub record Loads (c : Cached) (cell : ℕ) (h : Handle) (events : List Event) (calls : List StoreCall) : Type 0 where
@@ -46,15 +46,15 @@ pub record Loads (c : Cached) (cell : ℕ) (h : Handle) (events : List Event) (c
   pub room : MakesRoom c h.slot turn puts
   pub gets : List StoreCall
   pub fetched : AreFetch c.levels c.keys (lane_at c cell) cell (outcome.Ok (tt {0})) gets
-  pub events_are : events ≡ Miss 0 cell ∷ Claim 0 cell ∷ (turn ++ Live 0 cell h.slot ∷ [])
+  pub events_are : events ≡ Miss 0 cell ∷ loading 0 cell turn h.slot
   pub calls_are : calls ≡ puts ++ gets
 
 -- the refusal of an acquire by that of its fetch
-abbrev pub refusal_by : FetchErr → AcquireErr
-refusal_by fetching.ReadFault = refusal.ReadFault
-refusal_by (fetching.Malformed edited err) = refusal.Malformed edited err
-refusal_by (fetching.TooLong edited len limit) = refusal.TooLong edited len limit
-refusal_by fetching.Memory = refusal.Memory
+abbrev pub acquire_refusal_by : FetchErr → AcquireErr
+acquire_refusal_by fetching.ReadFault = refusal.ReadFault
+acquire_refusal_by (fetching.Malformed edited err) = refusal.Malformed edited err
+acquire_refusal_by (fetching.TooLong edited len limit) = refusal.TooLong edited len limit
+acquire_refusal_by fetching.Memory = refusal.Memory
 
 -- The cell wasn't live, and could not be got.
 pub record Drops (c : Cached) (cell : ℕ) (err : AcquireErr) (events : List Event) (calls : List StoreCall) : Type 0 where
@@ -66,8 +66,8 @@ pub record Drops (c : Cached) (cell : ℕ) (err : AcquireErr) (events : List Eve
   pub gets : List StoreCall
   pub cause : FetchErr
   pub fetched : AreFetch c.levels c.keys (lane_at c cell) cell (outcome.Err cause) gets
-  pub err_is : err ≡ refusal_by cause
-  pub events_are : events ≡ Miss 0 cell ∷ Claim 0 cell ∷ (turn ++ Drop 0 cell ∷ [])
+  pub err_is : err ≡ acquire_refusal_by cause
+  pub events_are : events ≡ Miss 0 cell ∷ dropping 0 cell turn
   pub calls_are : calls ≡ puts ++ gets
 
 -- the refusal of an acquire by a put that was not done
@@ -85,7 +85,7 @@ pub record HoldsUp (c : Cached) (cell : ℕ) (err : AcquireErr) (events : List E
   pub marked : (slot_at c slot).marked ≡ true
   pub answer : Put
   pub err_is : refusal_of_put answer ≡ Some err
-  pub events_are : events ≡ Miss 0 cell ∷ Claim 0 cell ∷ Close 0 due ∷ Back 0 due ∷ Drop 0 cell ∷ []
+  pub events_are : events ≡ Miss 0 cell ∷ holding_up 0 cell due
   pub calls_are : calls ≡ put_call c due slot answer ∷ []
 
 -- The events of an acquire and its calls of the stores, by its answer.
@@ -113,33 +113,23 @@ pub record Looks (c : Cached) (cell : ℕ) (result : Result Handle Seen) (events
   pub quiet : Quiet c events d
 
 -- A cell is acquired, and then these events of it end the call.
-pub record Visits (c : Cached) (cell : ℕ) (then : List Event) (calls : List StoreCall) (d : Cached) : Type 0 where
+pub record Visits (c : Cached) (cell : ℕ) (then events : List Event) (calls : List StoreCall) (d : Cached) : Type 0 where
   pub handle : Handle
   pub piece : List Event
   pub mid : Cached
   pub acquired : Acquires c cell (outcome.Ok handle) piece calls mid
   pub ended : Quiet mid then d
+  pub events_are : events ≡ piece ++ then
 
 -- nothing happens
-abbrev pub IsNothing : Cached → List StoreCall → Cached → Type 0
-IsNothing c calls d = (calls ≡ []) × (d ≡ c)
+abbrev pub IsNothing : Cached → List Event → List StoreCall → Cached → Type 0
+IsNothing c events calls d = (events ≡ []) × (calls ≡ []) × (d ≡ c)
 
--- a cell isn't acquired
-abbrev pub IsRefusedBy : Cached → ℕ → AcquireErr → List StoreCall → Cached → Type 0
-IsRefusedBy c cell err calls d = (piece : List Event) × Acquires c cell (outcome.Err err) piece calls d
+-- A get of a voxel, and a set, with their events and their calls of the stores, by their answers.
+abbrev pub GetsVoxel : Cached → ℕ → List ℕ → Result ℕ CellErr → List Event → List StoreCall → Cached → Type 0
+GetsVoxel c level pos result events calls d =
+    Gets 0 c.levels (λ cell then. Visits c cell then events calls d) (λ cell err. Acquires c cell (outcome.Err err) events calls d) (IsNothing c events calls d) level pos result
 
--- A get of a voxel, and a set, with their calls of the stores, by their answers.
-abbrev pub GetsVoxel : Cached → ℕ → List ℕ → Result ℕ CellErr → List StoreCall → Cached → Type 0
-GetsVoxel c level pos (outcome.Ok x) calls d = (cell : ℕ) × (at : ℕ) × IsVoxelOf c.levels level pos cell at × Visits c cell (Read 0 cell at x ∷ Unpin 0 cell ∷ []) calls d
-GetsVoxel c level pos (outcome.Err cell_err.Outside) calls d = IsOutside c.levels level pos × IsNothing c calls d
-GetsVoxel c level pos (outcome.Err (cell_err.TooLarge value)) calls d = ⊥
-GetsVoxel c level pos (outcome.Err (cell_err.Acquire err)) calls d = (cell : ℕ) × (at : ℕ) × IsVoxelOf c.levels level pos cell at × IsRefusedBy c cell err calls d
-
-abbrev pub SetsVoxel : Cached → ℕ → List ℕ → ℕ → Result (Unit {0}) CellErr → List StoreCall → Cached → Type 0
-SetsVoxel c level pos x (outcome.Ok done) calls d =
-    (cell : ℕ) × (at : ℕ) × IsVoxelOf c.levels level pos cell at × (x ≤ greatest_of (kind_of c.levels cell)) × Visits c cell (Mark 0 cell ∷ Write 0 cell at x ∷ Unpin 0 cell ∷ []) calls d
-SetsVoxel c level pos x (outcome.Err cell_err.Outside) calls d = IsOutside c.levels level pos × IsNothing c calls d
-SetsVoxel c level pos x (outcome.Err (cell_err.TooLarge value)) calls d =
-    (value ≡ x) × (cell : ℕ) × (at : ℕ) × IsVoxelOf c.levels level pos cell at × (greatest_of (kind_of c.levels cell) < x) × IsNothing c calls d
-SetsVoxel c level pos x (outcome.Err (cell_err.Acquire err)) calls d =
-    (cell : ℕ) × (at : ℕ) × IsVoxelOf c.levels level pos cell at × (x ≤ greatest_of (kind_of c.levels cell)) × IsRefusedBy c cell err calls d
+abbrev pub SetsVoxel : Cached → ℕ → List ℕ → ℕ → Result (Unit {0}) CellErr → List Event → List StoreCall → Cached → Type 0
+SetsVoxel c level pos x result events calls d =
+    Sets 0 c.levels (λ cell then. Visits c cell then events calls d) (λ cell err. Acquires c cell (outcome.Err err) events calls d) (IsNothing c events calls d) level pos x result

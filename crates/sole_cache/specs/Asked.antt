@@ -9,15 +9,16 @@ use Rattle.cell_file.specs.declared.errors.FetchErr.{FetchErr}
 use Rattle.cell_file.specs.declared.errors.SaveErr.{SaveErr}
 use Rattle.cell_file.specs.declared.errors.AcquireErr.{AcquireErr}
 use Rattle.arr_history.specs.declared.event.Event.{Event}
-use Rattle.arr_history.specs.declared.event.Event.TheVariants.{Claim, Drop, Live, Close, Gone, Back}
+use Rattle.arr_history.specs.declared.event.Event.TheVariants.{Claim, Drop, Live, Close, Gone}
+use Rattle.call_events.specs.Pieces.{holding_up}
 use Rattle.sole_cache.specs.Cached.{Cached, slot_at}
 use Rattle.sole_cache.specs.Handle.{Handle}
-use Rattle.sole_cache.specs.Acquires.{lane_at, put_call, refusal_by, refusal_of_put}
+use Rattle.sole_cache.specs.Acquires.{lane_at, put_call, acquire_refusal_by, refusal_of_put}
 
 -- the gets of a load, by its answer
-abbrev pub IsGot : Cached → ℕ → Result Handle AcquireErr → List StoreCall → Type 0
-IsGot c cell (outcome.Ok h) calls = AreFetch c.levels c.keys (lane_at c cell) cell (outcome.Ok (tt {0})) calls
-IsGot c cell (outcome.Err err) calls = (cause : FetchErr) × AreFetch c.levels c.keys (lane_at c cell) cell (outcome.Err cause) calls × (err ≡ refusal_by cause)
+abbrev pub IsCellGot : Cached → ℕ → Result Handle AcquireErr → List StoreCall → Type 0
+IsCellGot c cell (outcome.Ok h) calls = AreFetch c.levels c.keys (lane_at c cell) cell (outcome.Ok (tt {0})) calls
+IsCellGot c cell (outcome.Err err) calls = (cause : FetchErr) × AreFetch c.levels c.keys (lane_at c cell) cell (outcome.Err cause) calls × (err ≡ acquire_refusal_by cause)
 
 -- the put by which a cell leaves its slot, where it is marked
 abbrev pub leaving_calls : Cached → ℕ → ℕ → List StoreCall
@@ -31,7 +32,7 @@ IsTurnedOut c n slot (outcome.Err err) calls = (answer : Put) × (outcome.Err er
 -- The cell of a slot left it, and another was got, or could not be; this is the last event.
 pub record IsRefilled (c : Cached) (cell due slot : ℕ) (result : Result Handle AcquireErr) (last : Event) (events : List Event) (calls : List StoreCall) : Type 0 where
   pub gets : List StoreCall
-  pub got : IsGot c cell result gets
+  pub got : IsCellGot c cell result gets
   pub events_are : events ≡ Claim 0 cell ∷ Close 0 due ∷ Gone 0 due (slot_at c slot).marked ∷ last ∷ []
   pub calls_are : calls ≡ leaving_calls c due slot ++ gets
 
@@ -40,7 +41,7 @@ pub record IsHeldBack (c : Cached) (cell due slot : ℕ) (err : AcquireErr) (eve
   pub marked : (slot_at c slot).marked ≡ true
   pub answer : Put
   pub err_is : refusal_of_put answer ≡ Some err
-  pub events_are : events ≡ Claim 0 cell ∷ Close 0 due ∷ Back 0 due ∷ Drop 0 cell ∷ []
+  pub events_are : events ≡ holding_up 0 cell due
   pub calls_are : calls ≡ put_call c due slot answer ∷ []
 
 -- The events of a replacing and its calls of the stores: the cell of a slot leaves it, and another is loaded there, or not; or it could not

@@ -3,10 +3,11 @@ use Rattle.std.specs.Prelude.{ℕ, ◌==◌, Bool, false, cond, List, [], length
 use Rattle.std.specs.Option.{is_none}
 use Rattle.cell_grid.specs.declared.level.Level.{Level}
 use Rattle.cell_grid.specs.Pyramid.{lane_of}
-use Rattle.cell_store.specs.Store.{Contents}
+use Rattle.cell_store.specs.Store.{Contents, held_of}
 use Rattle.cell_file.specs.Keys.{KeyNames}
 use Rattle.cell_file.specs.Standing.{standing}
 use Rattle.recency.specs.Order.{Order}
+use Rattle.arr_history.specs.declared.closed.Unsaved.{Unsaved}
 use Rattle.arr_history.specs.declared.tally.Tally.{Tally}
 use Rattle.arr_history.specs.declared.cell_state.CellState.{CellState}
 use Rattle.arr_history.specs.declared.cell_state.CellState.TheVariants as cell
@@ -14,8 +15,9 @@ use Rattle.arr_history.specs.State.{State}
 use Rattle.arr_history.specs.Shape.{Shape}
 use Rattle.arr_history.specs.Checked.{shape_over}
 use Rattle.sole_cache.specs.Slot.{SlotValue, slot_in}
+pub use Rattle.stood_arrays.specs.Opening.{store_in}
 
--- the levels and key names, what each store shows of itself, the slot of each cell, the slots, the order in which they leave, and the counts
+-- the levels and key names, what each store shows of itself, the slot of each cell, the slots, the order in which they leave, the counts, and the cells that shutting could not put so far
 pub record Cached : Type 0 where
   pub levels : List Level
   pub keys : KeyNames
@@ -24,13 +26,7 @@ pub record Cached : Type 0 where
   pub slots : List SlotValue
   pub order : Order
   pub tally : Tally
-
--- a store out of range
-abbrev pub silent : Contents
-silent = record { told = false; held = λ _. None; told_log = false; log = []; faults = 0 }
-
-abbrev pub store_in : List Contents → ℕ → Contents
-store_in shown lane = slice_index_or shown lane silent
+  pub unsaved : List Unsaved
 
 -- what the store of a cell shows of itself
 abbrev pub store_of : Cached → ℕ → Contents
@@ -38,7 +34,7 @@ store_of c n = store_in c.shown (lane_of n (length c.shown))
 
 -- what the store of a cell stands for, of that cell
 abbrev pub stands : Cached → ℕ → Option (List ℕ)
-stands c n = standing c.levels c.keys (store_of c n).held n
+stands c n = standing c.levels c.keys (held_of (store_of c n)) n
 
 -- the slot of a cell, and what is in a slot
 abbrev pub slot_of : Cached → ℕ → Option ℕ

@@ -1,37 +1,23 @@
 -- How one cache comes from another by events.
-use Rattle.std.specs.Prelude.{◌≡◌, ◌≢◌, ℕ, ◌+◌, ◌<◌, ◌≤◌, ◌==◌, ◌&&◌, Bool, true, false, cond, not, IsTrue, List, [], length, Some, slice_index, slice_set, take}
+use Rattle.std.specs.Prelude.{◌≡◌, ◌≢◌, ℕ, ◌+◌, ◌<◌, ◌≤◌, Bool, true, false, cond, IsTrue, List, [], length, Some, slice_set, take}
 use Rattle.std.specs.List.{count_by, list_any}
 use Rattle.std.specs.Str.{bytes_eq}
 use Rattle.cell_grid.specs.Pyramid.{cells_of, voxels_of, sides_of, lane_of}
-use Rattle.cell_store.specs.Store.{Contents, Entry}
+use Rattle.cell_store.specs.Store.{Contents, held_of}
 use Rattle.n5_block.specs.Block.{block}
 use Rattle.cell_file.specs.Keys.{edited_key}
 use Rattle.cell_file.specs.Standing.{standing, width_of}
 use Rattle.arr_history.specs.declared.event.Event.{Event}
-use Rattle.arr_history.specs.declared.event.Event.TheVariants.{Live, Gone}
 use Rattle.arr_history.specs.Shape.{IsSameShape}
 use Rattle.arr_history.specs.Legal.{IsMarked}
 use Rattle.arr_history.specs.History.{LeadTo}
 use Rattle.arr_history.specs.Laws.{puts}
-use Rattle.arr_history.specs.Tally.{raised}
-use Rattle.sole_cache.specs.Cached.{Cached, store_in, store_of, stands, slot_at, state_of, shape_of}
+use Rattle.arr_history.specs.Tally.{tally_raised}
+use Rattle.sole_cache.specs.Cached.{Cached, store_in, store_of, slot_at, state_of, shape_of}
 use Rattle.sole_cache.specs.Turns.{order_after}
-
--- an entry of a log that is a put, or a get, under a key, and was done
-abbrev pub is_put : List ℕ → Entry → Bool
-is_put key e = e.put && (e.ok && bytes_eq key e.key)
-
-abbrev pub is_get : List ℕ → Entry → Bool
-is_get key e = not e.put && (e.ok && bytes_eq key e.key)
-
--- an event by which a cell leaves that was put, or by which a cell is loaded
-abbrev pub saves : ℕ → Event → Bool
-saves n (Gone k c saved) = saved && (c == n)
-saves n other = false
-
-abbrev pub loads : ℕ → Event → Bool
-loads n (Live k c slot) = c == n
-loads n other = false
+use Rattle.stood_arrays.specs.Standing.{StandsFor}
+pub use Rattle.stood_arrays.specs.Counts.{saves, loads}
+pub use Rattle.stood_arrays.specs.Entries.{is_put, is_get}
 
 -- What a store shows before and after: whether it tells is the same, its count of faults never falls, and its log only grows.
 pub record StoreMoves (old new : Contents) : Type 0 where
@@ -46,7 +32,7 @@ pub record StoresMove (old : Cached) (events : List Event) (new : Cached) : Type
   -- a key changes only where it is the edited key of a cell of that store that the events put
   pub kept : (lane : ℕ) (key : List ℕ) → IsTrue (store_in old.shown lane).told
       → ((n : ℕ) → n < cells_of old.levels → lane_of n (length old.shown) ≡ lane → bytes_eq (edited_key old.levels n) key ≡ true → list_any (puts n) events ≡ false)
-      → (store_in new.shown lane).held key ≡ (store_in old.shown lane).held key
+      → (held_of (store_in new.shown lane)) key ≡ (held_of (store_in old.shown lane)) key
   -- where the log is told, the puts done under a cell's edited key are as many as its leavings with a put, and the gets at least as many as its loads
   pub put_count : (n : ℕ) → n < cells_of old.levels → IsTrue (store_of old n).told_log
       → count_by (is_put (edited_key old.levels n)) (store_of new n).log ≡ count_by (is_put (edited_key old.levels n)) (store_of old n).log + count_by (saves n) events
@@ -65,17 +51,17 @@ pub record Moves (old : Cached) (events : List Event) (new : Cached) : Type 0 wh
 -- These events, all of the run part, lead from one cache to another.
 pub record Runs (old : Cached) (events : List Event) (new : Cached) : Type 0 where
   pub moves : Moves old events new
-  pub tally : new.tally ≡ raised old.tally events []
+  pub tally : new.tally ≡ tally_raised old.tally events []
 
 -- Where it is told, the store of each cell that is neither void nor marked stands for its array.
 abbrev pub IsStoodFor : Cached → Type 0
 IsStoodFor c = (n : ℕ) → n < cells_of c.levels → IsTrue (store_of c n).told → (shape_of c).is_void n ≡ false → ¬ IsMarked ((state_of c).cells n)
-    → (values : List ℕ) × (stands c n ≡ Some values) × ((i : ℕ) → i < voxels_of c.levels n → slice_index values i ≡ (state_of c).arrays n i)
+    → StandsFor (voxels_of c.levels) (standing c.levels c.keys) (held_of (store_of c n)) n ((state_of c).arrays n)
 
 -- What getting a cell's block did to its store: nothing that is held, no put, and where it gave values a get under the edited key.
 pub record Fetched (key : List ℕ) (gave : Bool) (old new : Contents) : Type 0 where
   pub moves : StoreMoves old new
-  pub held : IsTrue old.told → new.held ≡ old.held
+  pub held : IsTrue old.told → (held_of new) ≡ (held_of old)
   pub no_put : (other : List ℕ) → IsTrue old.told_log → count_by (is_put other) new.log ≡ count_by (is_put other) old.log
   pub gets : (other : List ℕ) → IsTrue old.told_log → count_by (is_get other) old.log ≤ count_by (is_get other) new.log
   pub got : IsTrue gave → IsTrue old.told_log → count_by (is_get key) old.log + 1 ≤ count_by (is_get key) new.log
@@ -83,7 +69,7 @@ pub record Fetched (key : List ℕ) (gave : Bool) (old new : Contents) : Type 0 
 -- What putting a cell's block did to its store: no other key, no get, and where it was done a put under the edited key.
 pub record Saved (key : List ℕ) (done : Bool) (old new : Contents) : Type 0 where
   pub moves : StoreMoves old new
-  pub held : IsTrue old.told → (other : List ℕ) → bytes_eq key other ≡ false → new.held other ≡ old.held other
+  pub held : IsTrue old.told → (other : List ℕ) → bytes_eq key other ≡ false → (held_of new) other ≡ (held_of old) other
   pub gets : (other : List ℕ) → IsTrue old.told_log → count_by (is_get other) new.log ≡ count_by (is_get other) old.log
   pub other_puts : (other : List ℕ) → bytes_eq key other ≡ false → IsTrue old.told_log → count_by (is_put other) new.log ≡ count_by (is_put other) old.log
   pub puts : IsTrue old.told_log → count_by (is_put key) new.log ≡ count_by (is_put key) old.log + cond done 1 0
@@ -92,7 +78,7 @@ pub record Saved (key : List ℕ) (done : Bool) (old new : Contents) : Type 0 wh
 pub record IsSaved (c : Cached) (n i : ℕ) (shown : List Contents) : Type 0 where
   pub one : shown ≡ slice_set c.shown (lane_of n (length c.shown)) (store_in shown (lane_of n (length c.shown)))
   pub saved : Saved (edited_key c.levels n) true (store_of c n) (store_in shown (lane_of n (length c.shown)))
-  pub stood : IsTrue (store_of c n).told → standing c.levels c.keys (store_in shown (lane_of n (length c.shown))).held n ≡ Some (take (voxels_of c.levels n) (slot_at c i).frame)
-  pub others : IsTrue (store_of c n).told → (m : ℕ) → m < cells_of c.levels → m ≢ n → standing c.levels c.keys (store_in shown (lane_of n (length c.shown))).held m ≡ standing c.levels c.keys (store_of c n).held m
+  pub stood : IsTrue (store_of c n).told → standing c.levels c.keys (held_of (store_in shown (lane_of n (length c.shown)))) n ≡ Some (take (voxels_of c.levels n) (slot_at c i).frame)
+  pub others : IsTrue (store_of c n).told → (m : ℕ) → m < cells_of c.levels → m ≢ n → standing c.levels c.keys (held_of (store_in shown (lane_of n (length c.shown)))) m ≡ standing c.levels c.keys (held_of (store_of c n)) m
   -- the bytes that stand under the edited key
-  pub bytes : IsTrue (store_of c n).told → (store_in shown (lane_of n (length c.shown))).held (edited_key c.levels n) ≡ Some (block (width_of c.levels n) (sides_of c.levels n) (take (voxels_of c.levels n) (slot_at c i).frame))
+  pub bytes : IsTrue (store_of c n).told → (held_of (store_in shown (lane_of n (length c.shown)))) (edited_key c.levels n) ≡ Some (block (width_of c.levels n) (sides_of c.levels n) (take (voxels_of c.levels n) (slot_at c i).frame))

@@ -2,7 +2,7 @@
 use Rattle.std.specs.Prelude.{◌≡◌, ℕ, false, List, [], length, replicate, None, unwrap_or, slice_index}
 use Rattle.cell_grid.specs.declared.level.Level.{Level}
 use Rattle.cell_file.specs.Keys.{KeyNames, AreKeys}
-use Rattle.recency.specs.Order.{opening}
+use Rattle.recency.specs.Order.{opening_order}
 use Rattle.arr_history.specs.State.{State}
 use Rattle.arr_history.specs.State as state
 use Rattle.arr_history.specs.History.{IsSame}
@@ -23,7 +23,7 @@ pub record IsOpened (levels : List Level) (keys : KeyNames) (slots : ℕ) (c : C
   pub absent : (n : ℕ) → slot_of c n ≡ None
   pub free : (i : ℕ) → (slot_at c i).cell ≡ None
   pub handles : handles_out c ≡ 0
-  pub order : c.order ≡ opening slots
+  pub order : c.order ≡ opening_order slots
   pub tally : c.tally ≡ tally_of [] []
   pub state : IsSame (shape_of c) (state.opening (λ n i. slice_index (unwrap_or (stands c n) []) i)) (state_of c)
   pub own : AreKeys keys

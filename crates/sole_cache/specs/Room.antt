@@ -1,8 +1,6 @@
 -- Which slot a load takes, and who leaves it.
-use Rattle.std.specs.Prelude.{◌≡◌, ◌≢◌, ◌⊎◌, ℕ, ◌<◌, nat_lt, Bool, List, [], ◌∷◌, length, map, Option, None, Some}
+use Rattle.std.specs.Prelude.{◌≡◌, ◌≢◌, ℕ, ◌<◌, nat_lt, Bool, List, length, map, Option, None, Some}
 use Rattle.recency.specs.Order.{victim_of}
-use Rattle.arr_history.specs.declared.event.Event.{Event}
-use Rattle.arr_history.specs.declared.event.Event.TheVariants.{Close, Gone}
 use Rattle.sole_cache.specs.Slot.{SlotValue, slot_in}
 use Rattle.sole_cache.specs.Cached.{Cached, slot_at}
 
@@ -19,13 +17,6 @@ IsLowestFree slots (Some i) = (i < length slots) × ((slot_in slots i).cell ≡ 
 abbrev pub IsFull : Cached → Type 0
 IsFull c = (i : ℕ) → i < length c.slots → 0 < (slot_at c i).pins
 
--- The slot that a load takes, and the events by which it becomes free: the lowest free one, without an event; or, where none is
--- free, that of the first cell in the order that nobody has pinned, which leaves.
+-- The slot of the cell that leaves for a load where no slot is free: the first in the order that nobody has pinned.
 abbrev pub IsVictim : Cached → ℕ → ℕ → Type 0
 IsVictim c slot v = IsLowestFree c.slots None × (victim_of c.order (pinned c.slots) ≡ Some slot) × ((slot_at c slot).cell ≡ Some v)
-
-abbrev pub IsTurnOut : Cached → ℕ → List Event → Type 0
-IsTurnOut c slot events = (v : ℕ) × (IsVictim c slot v × (events ≡ Close 0 v ∷ Gone 0 v (slot_at c slot).marked ∷ []))
-
-abbrev pub IsRoom : Cached → ℕ → List Event → Type 0
-IsRoom c slot events = (IsLowestFree c.slots (Some slot) × (events ≡ [])) ⊎ IsTurnOut c slot events

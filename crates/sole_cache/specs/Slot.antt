@@ -15,12 +15,12 @@ abbrev pub slot_in : List SlotValue → ℕ → SlotValue
 slot_in slots i = slice_index_or slots i no_slot
 
 -- a slot with another number of pins
-abbrev pub with_pins : SlotValue → ℕ → SlotValue
-with_pins s pins = record { cell = s.cell; pins = pins; marked = s.marked; frame = s.frame }
+abbrev pub slot_with_pins : SlotValue → ℕ → SlotValue
+slot_with_pins s pins = record { cell = s.cell; pins = pins; marked = s.marked; frame = s.frame }
 
 -- a slot with the mark, and another number at an offset of its frame
-abbrev pub with_value : SlotValue → ℕ → ℕ → SlotValue
-with_value s i x = record { cell = s.cell; pins = s.pins; marked = true; frame = slice_set s.frame i x }
+abbrev pub slot_with_value : SlotValue → ℕ → ℕ → SlotValue
+slot_with_value s i x = record { cell = s.cell; pins = s.pins; marked = true; frame = slice_set s.frame i x }
 
 -- a slot into which a cell is loaded, with one pin
 abbrev pub loaded_with : ℕ → List ℕ → SlotValue

@@ -1,7 +1,7 @@
 -- The order in which slots leave, as events change it: a pin and a return touch the cell's slot, a load admits its slot, and what is
 -- gone leaves its slot.
 use Rattle.std.specs.Prelude.{List, [], ◌∷◌}
-use Rattle.recency.specs.Order.{Order, admitted, left, touched}
+use Rattle.recency.specs.Order.{Order, admitted, without_slot, touched}
 use Rattle.arr_history.specs.declared.event.Event.{Event}
 use Rattle.arr_history.specs.declared.event.Event.TheVariants.{Pin, Live, Gone, Back}
 use Rattle.arr_history.specs.declared.cell_state.CellState.{CellState}
@@ -16,8 +16,8 @@ touched_by o (cell.Leaving k slot mark) = touched o slot
 touched_by o other = o
 
 abbrev pub left_by : Order → CellState → Order
-left_by o (cell.Live slot mark) = left o slot
-left_by o (cell.Leaving k slot mark) = left o slot
+left_by o (cell.Live slot mark) = without_slot o slot
+left_by o (cell.Leaving k slot mark) = without_slot o slot
 left_by o other = o
 
 abbrev pub order_next : State → Order → Event → Order

@@ -42,7 +42,7 @@ pub record IsCache (c : Cached) : Type 0 where
 
 -- what a cache keeps beside what it shows: which slots have a pin, a slot below which each has a cell, a spare frame, and room for a block and
 -- for the cells that shutting can't put
-pub record IsKept (c : Cached) (flags : List Bool) (free_from : ℕ) (spare put_room : List ℕ) (unsaved_room : ℕ) : Type 0 where
+pub record IsFrameKept (c : Cached) (flags : List Bool) (free_from : ℕ) (spare put_room : List ℕ) (unsaved_room : ℕ) : Type 0 where
   pub cache : IsCache c
   pub flags_are : flags ≡ pinned c.slots
   pub from : free_from ≤ length c.slots

@@ -43,12 +43,13 @@ pub struct SoleCache<S: Store> {
 
 impl<S: Store> Model for SoleCache<S> {
     ghost use Rattle.std.specs.Vec.{vec_capacity};
-    ghost use Rattle.sole_cache.specs.Value.{CacheValue, by};
-    ghost use Rattle.sole_cache.specs.Valid.{IsKept};
+    ghost use Rattle.std.specs.Prelude.{map};
+    ghost use Rattle.sole_cache.specs.Cached.{Cached};
+    ghost use Rattle.sole_cache.specs.Valid.{IsFrameKept};
 
-    ghost Value = { CacheValue S };
+    ghost Value = { Cached };
 
-    ghost view = { λ c. record { levels = c.geometry; keys = c.keys; stores = c.stores.items; table = c.table.items; slots = c.slots.items; order = c.recency; tally = c.tally; unsaved = c.unsaved.items } };
+    ghost view = { λ c. record { levels = c.geometry; keys = c.keys; shown = map S.contents c.stores.items; table = c.table.items; slots = c.slots.items; order = c.recency; tally = c.tally; unsaved = c.unsaved.items } };
 
-    ghost invariant = { λ c. IsKept (by S.contents (record { levels = c.geometry; keys = c.keys; stores = c.stores.items; table = c.table.items; slots = c.slots.items; order = c.recency; tally = c.tally; unsaved = c.unsaved.items })) c.pinned.items c.free_from c.spare.items c.put.items (vec_capacity c.unsaved) };
+    ghost invariant = { λ c. IsFrameKept (record { levels = c.geometry; keys = c.keys; shown = map S.contents c.stores.items; table = c.table.items; slots = c.slots.items; order = c.recency; tally = c.tally; unsaved = c.unsaved.items }) c.pinned.items c.free_from c.spare.items c.put.items (vec_capacity c.unsaved) };
 }

@@ -6,8 +6,6 @@ mod handle;
 mod laws;
 mod outside;
 mod slot;
-#[cfg(test)]
-mod tests;
 
 pub use cache::SoleCache;
 pub use handle::SoleHandle;

@@ -13,6 +13,7 @@ ghost use Rattle.cell_file.specs.Standing.{width_of, standing, refusal_of};
 ghost use Rattle.sole_cache.specs.Slot.{slot_in};
 ghost use Rattle.sole_cache.specs.Cached.{store_in};
 ghost use Rattle.sole_cache.specs.Moves.{Fetched, Saved};
+ghost use Rattle.cell_store.specs.Store.{held_of};
 
 use crate::slot::Slot;
 use cell_file::{FetchErr, Keys, SaveErr, fetch, save};
@@ -37,8 +38,8 @@ pub fn fetch_cell<S: Store>(
     ensures one { let lane = lane_of cell (length (map S.contents stores.old.items)) in map S.contents stores.new.items ≡ slice_set (map S.contents stores.old.items) lane (store_in (map S.contents stores.new.items) lane) }
     ensures fetched { let lane = lane_of cell (length (map S.contents stores.old.items)) in OnOk result (Fetched (edited_key geometry.now cell) true (store_in (map S.contents stores.old.items) lane) (store_in (map S.contents stores.new.items) lane)) }
     ensures not_fetched { let lane = lane_of cell (length (map S.contents stores.old.items)) in OnErr result (Fetched (edited_key geometry.now cell) false (store_in (map S.contents stores.old.items) lane) (store_in (map S.contents stores.new.items) lane)) }
-    ensures values { let before = store_in (map S.contents stores.old.items) (lane_of cell (length (map S.contents stores.old.items))) in IsTrue before.told → OnOk result (standing geometry.now keys.now before.held cell ≡ Some (take (voxels_of geometry.now cell) frame.new.items)) }
-    ensures refused { let before = store_in (map S.contents stores.old.items) (lane_of cell (length (map S.contents stores.old.items))) in IsTrue before.told → IfErr result (λ err. IsCauseOf (refusal_of geometry.now keys.now before.held cell) err) }
+    ensures values { let before = store_in (map S.contents stores.old.items) (lane_of cell (length (map S.contents stores.old.items))) in IsTrue before.told → OnOk result (standing geometry.now keys.now (held_of before) cell ≡ Some (take (voxels_of geometry.now cell) frame.new.items)) }
+    ensures refused { let before = store_in (map S.contents stores.old.items) (lane_of cell (length (map S.contents stores.old.items))) in IsTrue before.told → IfErr result (λ err. IsCauseOf (refusal_of geometry.now keys.now (held_of before) cell) err) }
     ensures read_fault { let lane = lane_of cell (length (map S.contents stores.old.items)) in result ≡ Err FetchErr.ReadFault → Rose (store_in (map S.contents stores.old.items) lane).faults (store_in (map S.contents stores.new.items) lane).faults }
     ensures fits { OnOk result ((i : ℕ) → i < voxels_of geometry.now cell → slice_index frame.new.items i ≤ greatest_of (kind_of geometry.now cell)) }
     ensures length { length frame.new.items ≡ length frame.old.items }
@@ -79,9 +80,9 @@ pub fn save_cell<S: Store>(
     ensures one { let lane = lane_of cell (length (map S.contents stores.old.items)) in map S.contents stores.new.items ≡ slice_set (map S.contents stores.old.items) lane (store_in (map S.contents stores.new.items) lane) }
     ensures saved { let lane = lane_of cell (length (map S.contents stores.old.items)) in OnOk result (Saved (edited_key geometry.now cell) true (store_in (map S.contents stores.old.items) lane) (store_in (map S.contents stores.new.items) lane)) }
     ensures not_saved { let lane = lane_of cell (length (map S.contents stores.old.items)) in OnErr result (Saved (edited_key geometry.now cell) false (store_in (map S.contents stores.old.items) lane) (store_in (map S.contents stores.new.items) lane)) }
-    ensures stands { let lane = lane_of cell (length (map S.contents stores.old.items)) in IsTrue (store_in (map S.contents stores.old.items) lane).told → OnOk result (standing geometry.now keys.now (store_in (map S.contents stores.new.items) lane).held cell ≡ Some (take (voxels_of geometry.now cell) (slot_in slots.now slot).frame)) }
-    ensures bytes { let lane = lane_of cell (length (map S.contents stores.old.items)) in IsTrue (store_in (map S.contents stores.old.items) lane).told → OnOk result ((store_in (map S.contents stores.new.items) lane).held (edited_key geometry.now cell) ≡ Some (block (width_of geometry.now cell) (sides_of geometry.now cell) (take (voxels_of geometry.now cell) (slot_in slots.now slot).frame))) }
-    ensures others { let lane = lane_of cell (length (map S.contents stores.old.items)) in IsTrue (store_in (map S.contents stores.old.items) lane).told → (other : ℕ) → other < cells_of geometry.now → other ≢ cell → standing geometry.now keys.now (store_in (map S.contents stores.new.items) lane).held other ≡ standing geometry.now keys.now (store_in (map S.contents stores.old.items) lane).held other }
+    ensures stands { let lane = lane_of cell (length (map S.contents stores.old.items)) in IsTrue (store_in (map S.contents stores.old.items) lane).told → OnOk result (standing geometry.now keys.now (held_of (store_in (map S.contents stores.new.items) lane)) cell ≡ Some (take (voxels_of geometry.now cell) (slot_in slots.now slot).frame)) }
+    ensures bytes { let lane = lane_of cell (length (map S.contents stores.old.items)) in IsTrue (store_in (map S.contents stores.old.items) lane).told → OnOk result ((held_of (store_in (map S.contents stores.new.items) lane)) (edited_key geometry.now cell) ≡ Some (block (width_of geometry.now cell) (sides_of geometry.now cell) (take (voxels_of geometry.now cell) (slot_in slots.now slot).frame))) }
+    ensures others { let lane = lane_of cell (length (map S.contents stores.old.items)) in IsTrue (store_in (map S.contents stores.old.items) lane).told → (other : ℕ) → other < cells_of geometry.now → other ≢ cell → standing geometry.now keys.now (held_of (store_in (map S.contents stores.new.items) lane)) other ≡ standing geometry.now keys.now (held_of (store_in (map S.contents stores.old.items) lane)) other }
     ensures write_fault { let lane = lane_of cell (length (map S.contents stores.old.items)) in result ≡ Err SaveErr.WriteFault → Rose (store_in (map S.contents stores.old.items) lane).faults (store_in (map S.contents stores.new.items) lane).faults }
     ensures length { length put.new.items ≡ length put.old.items }
 

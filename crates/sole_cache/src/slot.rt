@@ -1,6 +1,6 @@
 //! A slot, and what is done to one in a list of slots.
 ghost use Rattle.std.specs.Prelude.{◌≡◌, ◌≢◌, ℕ, ◌+◌, ◌^◌, ◌<◌, ◌≤◌, List, length, None, Some, IfSome, slice_index, slice_set};
-ghost use Rattle.sole_cache.specs.Slot.{slot_in, with_pins, with_value, loaded_with, emptied};
+ghost use Rattle.sole_cache.specs.Slot.{slot_in, slot_with_pins, slot_with_value, loaded_with, emptied};
 ghost use Rattle.sole_cache.specs.Room.{IsLowestFree};
 
 use std::marker::Model;
@@ -63,7 +63,7 @@ pub fn value_of(slots: &[Slot], slot: usize, at: usize) -> u64
 /// Gives a slot so many pins.
 pub fn set_pins(slots: &mut Vec<Slot>, slot: usize, pins: u32)
     requires { slot < length slots.old.items }
-    ensures { slots.new.items ≡ slice_set slots.old.items slot (with_pins (slot_in slots.old.items slot) pins) }
+    ensures { slots.new.items ≡ slice_set slots.old.items slot (slot_with_pins (slot_in slots.old.items slot) pins) }
 {
     let slot = &mut slots[slot];
     slot.pins = pins;
@@ -73,7 +73,7 @@ pub fn set_pins(slots: &mut Vec<Slot>, slot: usize, pins: u32)
 pub fn set_value(slots: &mut Vec<Slot>, slot: usize, at: usize, value: u64)
     requires slot { slot < length slots.old.items }
     requires at { at < length (slot_in slots.old.items slot).frame }
-    ensures { slots.new.items ≡ slice_set slots.old.items slot (with_value (slot_in slots.old.items slot) at value) }
+    ensures { slots.new.items ≡ slice_set slots.old.items slot (slot_with_value (slot_in slots.old.items slot) at value) }
 {
     let slot = &mut slots[slot];
     slot.marked = true;

@@ -1,9 +1,8 @@
 //! Making a cache.
-ghost use Rattle.std.specs.Prelude.{◌≡◌, ℕ, ◌+◌, ◌*◌, ◌^◌, ◌<◌, ◌≤◌, [], false, None, IfOk, IfErr, length, replicate};
+ghost use Rattle.std.specs.Prelude.{◌≡◌, ℕ, ◌+◌, ◌*◌, ◌^◌, ◌<◌, ◌≤◌, [], false, None, IfOk, IfErr, length, replicate, map};
 ghost use Rattle.std.specs.Vec.{vec_capacity};
 ghost use Rattle.cell_grid.specs.Pyramid.{cells_of, frame_of, IsPyramid};
-ghost use Rattle.recency.specs.Order.{opening};
-ghost use Rattle.sole_cache.specs.Value.{by};
+ghost use Rattle.recency.specs.Order.{opening_order};
 ghost use Rattle.sole_cache.specs.Open.{free_slot, IsOpened};
 
 use crate::cache::SoleCache;
@@ -37,11 +36,11 @@ impl<S: Store> SoleCache<S> {
         requires few_words { slots * frame_of geometry ≤ 2 ^ 24 }
         requires some_stores { 1 ≤ length stores.items }
         requires few_stores { length stores.items ≤ 16 }
-        ensures opened { IfOk result (λ cache. IsOpened geometry keys slots (by S.contents cache)) }
-        ensures stores { IfOk result (λ cache. cache.stores ≡ stores.items) }
+        ensures opened { IfOk result (λ cache. IsOpened geometry keys slots (cache)) }
+        ensures stores { IfOk result (λ cache. cache.shown ≡ map S.contents stores.items) }
         ensures unmade { IfErr result (λ unmade. unmade.stores.items ≡ stores.items) }
     {
-        let _plain = keys.plain();
+        let _plain = keys.plain(); // read for what its contract tells the proof
         match take_parts(alloc, &geometry, slots) {
             Ok(parts) => Ok(SoleCache {
                 geometry,
@@ -83,7 +82,7 @@ fn take_parts(alloc: Global, geometry: &Geometry, slots: u32) -> Result<Parts, A
     ensures table { IfOk result (λ parts. parts.table.items ≡ replicate (cells_of geometry.now) None) }
     ensures slots { IfOk result (λ parts. parts.slots.items ≡ replicate slots (free_slot (frame_of geometry.now))) }
     ensures pinned { IfOk result (λ parts. parts.pinned.items ≡ replicate slots false) }
-    ensures order { IfOk result (λ parts. parts.recency ≡ opening slots) }
+    ensures order { IfOk result (λ parts. parts.recency ≡ opening_order slots) }
     ensures spare { IfOk result (λ parts. length parts.spare.items ≡ frame_of geometry.now) }
     ensures put { IfOk result (λ parts. length parts.put.items ≡ 16 + 8 * frame_of geometry.now) }
     ensures unsaved { IfOk result (λ parts. parts.unsaved.items ≡ []) }

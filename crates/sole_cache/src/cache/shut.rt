@@ -1,9 +1,8 @@
 //! Shutting a cache.
 ghost use Rattle.std.specs.Prelude.{◌≡◌, ◌≢◌, ℕ, ◌+◌, ◌<◌, ◌≤◌, List, [], ◌∷◌, ◌++◌, true, false, Some, None, length, map, take};
 ghost use Rattle.arr_history.specs.declared.event.Event.{Event};
-ghost use Rattle.arr_history.specs.Tally.{raised};
+ghost use Rattle.arr_history.specs.Tally.{tally_raised};
 ghost use Rattle.sole_cache.specs.Cached.{Cached, slot_of, slot_at, handles_out};
-ghost use Rattle.sole_cache.specs.Value.{by};
 ghost use Rattle.sole_cache.specs.Valid.{IsCache};
 ghost use Rattle.sole_cache.specs.Moves.{Moves, IsStoodFor};
 ghost use Rattle.sole_cache.specs.Shut.{ClosesSlot, IsShut};
@@ -17,8 +16,8 @@ impl<S: Store> SoleCache<S> {
     /// Closes each live cell, slot after slot: it is put where it is marked, and gone; where it could not be put it comes back
     /// and is named unsaved. Gives the stores back. It takes no memory of its own.
     pub fn shut(self) -> Closed<S>
-        requires { handles_out (by S.contents self) ≡ 0 }
-        ensures { IsShut (by S.contents self) (map S.contents result.stores.items) result.unsaved.items result.tally }
+        requires { handles_out self ≡ 0 }
+        ensures { IsShut self (map S.contents result.stores.items) result.unsaved.items result.tally }
     {
         let mut cache = self;
         cache.forget_unsaved();
@@ -32,11 +31,11 @@ impl<S: Store> SoleCache<S> {
     fn close(&mut self, slot: u32)
         requires slot { slot < length self.old.slots }
         requires room { length self.old.unsaved < length self.old.slots }
-        requires unpinned { (slot_at (by S.contents self.old) slot).pins ≡ 0 }
-        ensures closed { ClosesSlot (by S.contents self.old) (by S.contents self.new) slot self.old.unsaved self.new.unsaved }
-        ensures others { (i : ℕ) → i ≢ slot → slot_at (by S.contents self.new) i ≡ slot_at (by S.contents self.old) i }
+        requires unpinned { (slot_at self.old slot).pins ≡ 0 }
+        ensures closed { ClosesSlot self.old self.new slot self.old.unsaved self.new.unsaved }
+        ensures others { (i : ℕ) → i ≢ slot → slot_at self.new i ≡ slot_at self.old i }
         ensures slots { length self.new.slots ≡ length self.old.slots }
-        ensures valid { IsCache (by S.contents self.new) }
+        ensures valid { IsCache self.new }
     {
         let Some(cell) = self.owner(slot) else {
             return;
@@ -53,7 +52,7 @@ impl<S: Store> SoleCache<S> {
 
     /// Counts an event of the shutting.
     fn count_closing(&mut self, event: &Event)
-        ensures { self.new ≡ record self.old { tally = raised self.old.tally [] (event.now ∷ []) } }
+        ensures { self.new ≡ record self.old { tally = tally_raised self.old.tally [] (event.now ∷ []) } }
     {
         self.tally = self.tally.with_closing(event);
     }
@@ -76,17 +75,17 @@ impl<S: Store> SoleCache<S> {
     /// How many slots there are.
     fn slots(&self) -> u32
         ensures slots { result ≡ length self.now.slots }
-        ensures valid { IsCache (by S.contents self.now) }
+        ensures valid { IsCache self.now }
     {
         self.slots.len() as u32
     }
 
     /// The stores, the cells named and the counts.
     fn into_closed(self) -> Closed<S>
-        ensures stores { result.stores.items ≡ self.stores }
+        ensures stores { map S.contents result.stores.items ≡ self.shown }
         ensures unsaved { result.unsaved.items ≡ self.unsaved }
         ensures tally { result.tally ≡ self.tally }
-        ensures valid { IsCache (by S.contents self) }
+        ensures valid { IsCache self }
     {
         let SoleCache {
             geometry: _,

@@ -6,11 +6,10 @@ ghost use Rattle.store_calls.specs.Calls.{StoreCall};
 ghost use Rattle.arr_history.specs.declared.event.Event.{Event};
 ghost use Rattle.arr_history.specs.declared.event.Event.TheVariants as happening;
 ghost use Rattle.sole_cache.specs.Cached.{slot_of, slot_at, state_of, handles_out};
-ghost use Rattle.sole_cache.specs.Value.{by};
 ghost use Rattle.sole_cache.specs.Valid.{IsCache};
 ghost use Rattle.sole_cache.specs.Moves.{Runs, IsStoodFor};
 ghost use Rattle.sole_cache.specs.Handle.{Handle, IsHandleOf};
-ghost use Rattle.sole_cache.specs.Pieces.{IsGet, IsSet, IsCellCaused};
+ghost use Rattle.sole_cache.specs.Pieces.{IsCellCaused};
 ghost use Rattle.sole_cache.specs.Acquires.{Quiet, GetsVoxel, SetsVoxel};
 
 use crate::cache::SoleCache;
@@ -22,37 +21,37 @@ use cell_store::Store;
 impl<S: Store> SoleCache<S> {
     /// The number of a voxel of a pinned cell. It takes no memory, and one step.
     pub fn read(&mut self, h: &SoleHandle, at: u32) -> u64
-        requires handle { IsHandleOf (by S.contents self.old) h.now }
+        requires handle { IsHandleOf self.old h.now }
         requires at { at < voxels_of self.old.levels h.now.cell }
-        ensures value { result ≡ (state_of (by S.contents self.old)).arrays h.now.cell at }
-        ensures runs { Runs (by S.contents self.old) (happening.Read 0 h.now.cell at result ∷ []) (by S.contents self.new) }
+        ensures value { result ≡ (state_of self.old).arrays h.now.cell at }
+        ensures runs { Runs self.old (happening.Read 0 h.now.cell at result ∷ []) self.new }
         ensures unchanged { self.new ≡ self.old }
-        ensures valid { IsCache (by S.contents self.new) }
+        ensures valid { IsCache self.new }
     {
         value_of(self.slots.as_slice(), h.slot() as usize, at as usize)
     }
 
     /// Marks a pinned cell, and writes a voxel of it. It takes no memory, and one step.
     pub fn write(&mut self, h: &SoleHandle, at: u32, value: u64)
-        requires handle { IsHandleOf (by S.contents self.old) h.now }
+        requires handle { IsHandleOf self.old h.now }
         requires at { at < voxels_of self.old.levels h.now.cell }
         requires value { value ≤ greatest_of (kind_of self.old.levels h.now.cell) }
-        ensures runs { Runs (by S.contents self.old) (happening.Mark 0 h.now.cell ∷ happening.Write 0 h.now.cell at value ∷ []) (by S.contents self.new) }
-        ensures stores { self.new.stores ≡ self.old.stores }
-        ensures handles { handles_out (by S.contents self.new) ≡ handles_out (by S.contents self.old) }
-        ensures held { (other : Handle) → IsHandleOf (by S.contents self.old) other → IsHandleOf (by S.contents self.new) other }
-        ensures stood { IsStoodFor (by S.contents self.new) }
+        ensures runs { Runs self.old (happening.Mark 0 h.now.cell ∷ happening.Write 0 h.now.cell at value ∷ []) self.new }
+        ensures stores { self.new.shown ≡ self.old.shown }
+        ensures handles { handles_out self.new ≡ handles_out self.old }
+        ensures held { (other : Handle) → IsHandleOf self.old other → IsHandleOf self.new other }
+        ensures stood { IsStoodFor self.new }
     {
         set_value(&mut self.slots, h.slot() as usize, at as usize, value);
     }
 
     /// Gives a handle back.
     pub fn release(&mut self, h: SoleHandle)
-        requires handle { IsHandleOf (by S.contents self.old) h }
-        ensures quiet { Quiet (by S.contents self.old) (happening.Unpin 0 h.cell ∷ []) (by S.contents self.new) }
-        ensures handles { handles_out (by S.contents self.old) ≡ handles_out (by S.contents self.new) + 1 }
-        ensures held { (other : Handle) → other.slot ≢ h.slot → IsHandleOf (by S.contents self.old) other → IsHandleOf (by S.contents self.new) other }
-        ensures stood { IsStoodFor (by S.contents self.new) }
+        requires handle { IsHandleOf self.old h }
+        ensures quiet { Quiet self.old (happening.Unpin 0 h.cell ∷ []) self.new }
+        ensures handles { handles_out self.old ≡ handles_out self.new + 1 }
+        ensures held { (other : Handle) → other.slot ≢ h.slot → IsHandleOf self.old other → IsHandleOf self.new other }
+        ensures stood { IsStoodFor self.new }
     {
         self.unpin(h.cell(), h.slot());
         h.spend();
@@ -61,12 +60,11 @@ impl<S: Store> SoleCache<S> {
     /// The number of a voxel, by its level and its position there. `Outside` exactly where there is no such voxel; else the
     /// refusal is that of `acquire`.
     pub fn get(&mut self, level: u8, pos: [u64; 3]) -> Result<u64, CellErr>
-        requires room { handles_out (by S.contents self.old) < 64 }
-        ensures events { (events : List Event) × (IsGet (by S.contents self.old) level pos result events × Runs (by S.contents self.old) events (by S.contents self.new)) }
-        ensures asks { (calls : List StoreCall) × GetsVoxel (by S.contents self.old) level pos result calls (by S.contents self.new) }
-        ensures caused { IsCellCaused (by S.contents self.old) (by S.contents self.new) level pos result }
-        ensures handles { handles_out (by S.contents self.new) ≡ handles_out (by S.contents self.old) }
-        ensures stood { IsStoodFor (by S.contents self.new) }
+        requires room { handles_out self.old < 64 }
+        ensures got { (events : List Event) × (calls : List StoreCall) × GetsVoxel self.old level pos result events calls self.new × Runs self.old events self.new }
+        ensures caused { IsCellCaused self.old self.new level pos result }
+        ensures handles { handles_out self.new ≡ handles_out self.old }
+        ensures stood { IsStoodFor self.new }
     {
         let Some(place) = self.geometry.place(level, pos) else {
             return Err(CellErr::Outside);
@@ -85,12 +83,11 @@ impl<S: Store> SoleCache<S> {
     /// exactly where the value is above the greatest of the level's kind; else the refusal is that of `acquire`, and no voxel
     /// is changed.
     pub fn set(&mut self, level: u8, pos: [u64; 3], value: u64) -> Result<(), CellErr>
-        requires room { handles_out (by S.contents self.old) < 64 }
-        ensures events { (events : List Event) × (IsSet (by S.contents self.old) level pos value result events × Runs (by S.contents self.old) events (by S.contents self.new)) }
-        ensures asks { (calls : List StoreCall) × SetsVoxel (by S.contents self.old) level pos value result calls (by S.contents self.new) }
-        ensures caused { IsCellCaused (by S.contents self.old) (by S.contents self.new) level pos result }
-        ensures handles { handles_out (by S.contents self.new) ≡ handles_out (by S.contents self.old) }
-        ensures stood { IsStoodFor (by S.contents self.new) }
+        requires room { handles_out self.old < 64 }
+        ensures done { (events : List Event) × (calls : List StoreCall) × SetsVoxel self.old level pos value result events calls self.new × Runs self.old events self.new }
+        ensures caused { IsCellCaused self.old self.new level pos result }
+        ensures handles { handles_out self.new ≡ handles_out self.old }
+        ensures stood { IsStoodFor self.new }
     {
         let Some(place) = self.geometry.place(level, pos) else {
             return Err(CellErr::Outside);

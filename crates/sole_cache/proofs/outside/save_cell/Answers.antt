@@ -2,7 +2,7 @@ use Rattle.std.proofs.Common.{◌≡◌, ◌≢◌, ◌∙◌, ◌<◌, ℕ, Lis
 use Rattle.std.proofs.lemmas.Grind.{common_steps}
 use Rattle.cell_grid.specs.Pyramid.{lane_of, voxels_of, sides_of, cells_of}
 use Rattle.cell_store.specs.Faults.{Rose}
-use Rattle.cell_store.specs.Store.{Contents}
+use Rattle.cell_store.specs.Store.{Contents, held_of}
 use Rattle.n5_block.specs.Block.{block}
 use Rattle.cell_file.specs.Keys.{edited_key}
 use Rattle.cell_file.specs.Standing.{standing, width_of}
@@ -59,8 +59,8 @@ returns-clause-stands g c =
     let inside : c.lane-lane.result < length c.args.stores.now.items = grind (arith, common_steps) in
     let e = c.save.ensures in
     let frame = (slot_in c.args.slots.now c.args.slot).frame in
-    subst (λ k. IsTrue (store_in (map g.S.Store.contents c.args.stores.now.items) k).told → OnOk c.save.result (standing c.args.geometry.now c.args.keys.now (store_in (map g.S.Store.contents (slice_set c.args.stores.now.items c.lane-lane.result c.save.new.store)) k).held c.args.cell ≡ Some (take (voxels_of c.args.geometry.now c.args.cell) (slot_in c.args.slots.now c.args.slot).frame))) at
-    (both (λ (a b : Contents). IsTrue a.told → OnOk c.save.result (standing c.args.geometry.now c.args.keys.now b.held c.args.cell ≡ Some (take (voxels_of c.args.geometry.now c.args.cell) (slot_in c.args.slots.now c.args.slot).frame))) _ _ _ _
+    subst (λ k. IsTrue (store_in (map g.S.Store.contents c.args.stores.now.items) k).told → OnOk c.save.result (standing c.args.geometry.now c.args.keys.now (held_of (store_in (map g.S.Store.contents (slice_set c.args.stores.now.items c.lane-lane.result c.save.new.store)) k)) c.args.cell ≡ Some (take (voxels_of c.args.geometry.now c.args.cell) (slot_in c.args.slots.now c.args.slot).frame))) at
+    (both (λ (a b : Contents). IsTrue a.told → OnOk c.save.result (standing c.args.geometry.now c.args.keys.now (held_of b) c.args.cell ≡ Some (take (voxels_of c.args.geometry.now c.args.cell) (slot_in c.args.slots.now c.args.slot).frame))) _ _ _ _
     (was_store g.S.Store.contents c.args.stores.now.items c.lane-lane.result _ c.index_mut.ensures.value inside) (is_store g.S.Store.contents c.args.stores.now.items c.lane-lane.result c.save.new.store inside)
     (λ t. map_ok c.save.result _ _ (λ h. h ∙ ap Some same) (e.saved t)))
 
@@ -73,10 +73,10 @@ returns-clause-bytes g c =
     let inside : c.lane-lane.result < length c.args.stores.now.items = grind (arith, common_steps) in
     let e = c.save.ensures in
     let frame = (slot_in c.args.slots.now c.args.slot).frame in
-    subst (λ k. IsTrue (store_in (map g.S.Store.contents c.args.stores.now.items) k).told → OnOk c.save.result ((store_in (map g.S.Store.contents (slice_set c.args.stores.now.items c.lane-lane.result c.save.new.store)) k).held (edited_key c.args.geometry.now c.args.cell) ≡ Some (block (width_of c.args.geometry.now c.args.cell) (sides_of c.args.geometry.now c.args.cell) (take (voxels_of c.args.geometry.now c.args.cell) (slot_in c.args.slots.now c.args.slot).frame)))) at
-    (both (λ (a b : Contents). IsTrue a.told → OnOk c.save.result (b.held (edited_key c.args.geometry.now c.args.cell) ≡ Some (block (width_of c.args.geometry.now c.args.cell) (sides_of c.args.geometry.now c.args.cell) (take (voxels_of c.args.geometry.now c.args.cell) (slot_in c.args.slots.now c.args.slot).frame)))) _ _ _ _
+    subst (λ k. IsTrue (store_in (map g.S.Store.contents c.args.stores.now.items) k).told → OnOk c.save.result ((held_of (store_in (map g.S.Store.contents (slice_set c.args.stores.now.items c.lane-lane.result c.save.new.store)) k)) (edited_key c.args.geometry.now c.args.cell) ≡ Some (block (width_of c.args.geometry.now c.args.cell) (sides_of c.args.geometry.now c.args.cell) (take (voxels_of c.args.geometry.now c.args.cell) (slot_in c.args.slots.now c.args.slot).frame)))) at
+    (both (λ (a b : Contents). IsTrue a.told → OnOk c.save.result ((held_of b) (edited_key c.args.geometry.now c.args.cell) ≡ Some (block (width_of c.args.geometry.now c.args.cell) (sides_of c.args.geometry.now c.args.cell) (take (voxels_of c.args.geometry.now c.args.cell) (slot_in c.args.slots.now c.args.slot).frame)))) _ _ _ _
     (was_store g.S.Store.contents c.args.stores.now.items c.lane-lane.result _ c.index_mut.ensures.value inside) (is_store g.S.Store.contents c.args.stores.now.items c.lane-lane.result c.save.new.store inside)
-    (λ t. map_ok c.save.result _ _ (λ h. put_there _ _ _ _ h ∙ ap (λ l. Some (block (width_of c.args.geometry.now c.args.cell) (sides_of c.args.geometry.now c.args.cell) l)) same) (e.block t)))
+    (λ t. map_ok c.save.result _ _ (λ h. put_there (held_of (g.S.Store.contents c.index_mut.result.now)) (held_of (g.S.Store.contents c.save.new.store)) (edited_key c.args.geometry.now c.args.cell) (block (width_of c.args.geometry.now c.args.cell) (sides_of c.args.geometry.now c.args.cell) (take c.voxels-voxels.result c.deref.result.now)) h ∙ ap (λ l. Some (block (width_of c.args.geometry.now c.args.cell) (sides_of c.args.geometry.now c.args.cell) l)) same) (e.block t)))
 
 pub returns-clause-others : goal.returns-clause-others
 returns-clause-others g c =
@@ -85,8 +85,8 @@ returns-clause-others g c =
     let inside : c.lane-lane.result < length c.args.stores.now.items = grind (arith, common_steps) in
     let e = c.save.ensures in
     let frame = (slot_in c.args.slots.now c.args.slot).frame in
-    subst (λ k. IsTrue (store_in (map g.S.Store.contents c.args.stores.now.items) k).told → (other : ℕ) → other < cells_of c.args.geometry.now → other ≢ c.args.cell → standing c.args.geometry.now c.args.keys.now (store_in (map g.S.Store.contents (slice_set c.args.stores.now.items c.lane-lane.result c.save.new.store)) k).held other ≡ standing c.args.geometry.now c.args.keys.now (store_in (map g.S.Store.contents c.args.stores.now.items) k).held other) at
-    (both (λ (a b : Contents). IsTrue a.told → (other : ℕ) → other < cells_of c.args.geometry.now → other ≢ c.args.cell → standing c.args.geometry.now c.args.keys.now b.held other ≡ standing c.args.geometry.now c.args.keys.now a.held other) _ _ _ _
+    subst (λ k. IsTrue (store_in (map g.S.Store.contents c.args.stores.now.items) k).told → (other : ℕ) → other < cells_of c.args.geometry.now → other ≢ c.args.cell → standing c.args.geometry.now c.args.keys.now (held_of (store_in (map g.S.Store.contents (slice_set c.args.stores.now.items c.lane-lane.result c.save.new.store)) k)) other ≡ standing c.args.geometry.now c.args.keys.now (held_of (store_in (map g.S.Store.contents c.args.stores.now.items) k)) other) at
+    (both (λ (a b : Contents). IsTrue a.told → (other : ℕ) → other < cells_of c.args.geometry.now → other ≢ c.args.cell → standing c.args.geometry.now c.args.keys.now (held_of b) other ≡ standing c.args.geometry.now c.args.keys.now (held_of a) other) _ _ _ _
     (was_store g.S.Store.contents c.args.stores.now.items c.lane-lane.result _ c.index_mut.ensures.value inside) (is_store g.S.Store.contents c.args.stores.now.items c.lane-lane.result c.save.new.store inside)
     e.others)
 

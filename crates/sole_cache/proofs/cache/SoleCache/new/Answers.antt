@@ -12,7 +12,7 @@ invariant_of-result g c =
     let shown : List Contents = map g.S.Store.contents c.args.stores.items in
     let count : length shown ≡ length c.args.stores.items = map_length g.S.Store.contents c.args.stores.items in
     let zeros : c.default.result ≡ tally_of [] [] = zero_tally c.default.result c.default.ensures in
-    rw (e.table, e.slots, e.pinned, e.order) (kept_fresh c.args.geometry c.args.keys shown c.args.slots c.default.result e.pyramid c.requires.made c.requires.some_slots c.requires.few_slots (subst (λ k. 1 ≤ k) (sym count) c.requires.some_stores)
+    rw (e.table, e.slots, e.pinned, e.order, e.unsaved) (kept_fresh c.args.geometry c.args.keys shown c.args.slots c.default.result e.pyramid c.requires.made c.requires.some_slots c.requires.few_slots (subst (λ k. 1 ≤ k) (sym count) c.requires.some_stores)
     (subst (λ k. k ≤ 16) (sym count) c.requires.few_stores) zeros c.in-Ok.parts.spare.items c.in-Ok.parts.put.items (vec_capacity c.in-Ok.parts.unsaved) e.spare e.put e.room)
 
 pub returns-in-Ok-clause-opened : goal.returns-in-Ok-clause-opened
@@ -21,5 +21,5 @@ returns-in-Ok-clause-opened g c =
     let shown : List Contents = map g.S.Store.contents c.args.stores.items in
     let count : length shown ≡ length c.args.stores.items = map_length g.S.Store.contents c.args.stores.items in
     let zeros : c.default.result ≡ tally_of [] [] = zero_tally c.default.result c.default.ensures in
-    rw (e.table, e.slots, e.order) (is_opened c.args.geometry c.args.keys shown c.args.slots c.default.result e.pyramid c.requires.made c.requires.some_slots c.requires.few_slots (subst (λ k. 1 ≤ k) (sym count) c.requires.some_stores)
+    rw (e.table, e.slots, e.order, e.unsaved) (is_opened c.args.geometry c.args.keys shown c.args.slots c.default.result e.pyramid c.requires.made c.requires.some_slots c.requires.few_slots (subst (λ k. 1 ≤ k) (sym count) c.requires.some_stores)
     (subst (λ k. k ≤ 16) (sym count) c.requires.few_stores) zeros c.plain-plain.ensures.keys)

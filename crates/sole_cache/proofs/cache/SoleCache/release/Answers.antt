@@ -1,6 +1,5 @@
-use Rattle.sole_cache.specs.Value.{by}
 use Rattle.sole_cache.proofs.Stood.{stood}
 use Rattle.sole_cache.proofs.cache.SoleCache.release.Goals as goal
 
 pub returns-clause-stood : goal.returns-clause-stood
-returns-clause-stood g c = stood (by g.S.Store.contents c.unpin.new.self) c.unpin.ensures.valid
+returns-clause-stood g c = stood c.unpin.new.self c.unpin.ensures.valid

@@ -1,29 +1,29 @@
-use Rattle.std.proofs.Common.{◌≡◌, ◌≢◌, ◌∙◌, ◌-◌, ◌<◌, [], ◌∷◌, Some, None, nat_lt, slice_set, sym, ap, subst, refl, arith}
+use Rattle.std.proofs.Common.{◌≡◌, ◌≢◌, ◌∙◌, ◌-◌, ◌<◌, [], ◌∷◌, Some, None, nat_lt, slice_set, sym, ap, subst, refl, arith, map}
 use Rattle.std.proofs.lemmas.Grind.{common_steps}
 use Rattle.std.specs.Vec.{vec_capacity}
 use Rattle.arr_history.specs.declared.event.Event.TheVariants as happening
-use Rattle.sole_cache.specs.Slot.{with_pins}
+use Rattle.sole_cache.specs.Slot.{slot_with_pins}
 use Rattle.sole_cache.specs.Cached.{Cached, slot_of, slot_at}
-use Rattle.sole_cache.specs.Value.{CacheValue, by}
+use Rattle.sole_cache.specs.Cached.{Cached}
 use Rattle.sole_cache.specs.Moves.{Runs}
 use Rattle.sole_cache.proofs.Steps.{none_some, cache_kept}
 use Rattle.sole_cache.proofs.Still.{may_pin, moves_unpin, uncounted_unpin}
 use Rattle.sole_cache.proofs.Kept.{kept_set, one_more_than}
 use Rattle.arr_history.proofs.Counts.{raised_none}
+use Rattle.sole_cache.proofs.Inside.{value_of}
 use Rattle.sole_cache.proofs.cache.SoleCache.unpin.Goals as goal
 
 pub invariant_of-self : goal.invariant_of-self
 invariant_of-self g c =
-    let inside : CacheValue g.row.S.Denot = record { levels = c.self.inside.geometry; keys = c.self.inside.keys; stores = c.self.inside.stores.items; table = c.self.inside.table.items; slots = c.self.inside.slots.items; order = c.self.inside.recency; tally = c.self.inside.tally; unsaved = c.self.inside.unsaved.items } in
-    let is : inside ≡ c.args.self.now = c.self.view_is in
-    let cached : Cached = by g.S.Store.contents inside in
+    let cached = value_of g.S.Store.contents c.self.inside in
+    let is : cached ≡ c.args.self.now = c.self.view_is in
     let kept = c.self.invariant in
-    let live : slot_of cached c.args.cell ≡ Some c.args.slot = subst (λ (x : CacheValue g.row.S.Denot). slot_of (by g.S.Store.contents x) c.args.cell ≡ Some c.args.slot) (sym is) c.requires.live in
+    let live : slot_of cached c.args.cell ≡ Some c.args.slot = subst (λ (x : Cached). slot_of x c.args.cell ≡ Some c.args.slot) (sym is) c.requires.live in
     let owned = kept.cache.seated.in_slot c.args.cell c.args.slot live in
     let pins : c.pins_of-pins.result ≡ (slot_at cached c.args.slot).pins = grind (arith, common_steps) in
-    let some_pins : 0 < (slot_at cached c.args.slot).pins = subst (λ (x : CacheValue g.row.S.Denot). 0 < (slot_at (by g.S.Store.contents x) c.args.slot).pins) (sym is) c.requires.pinned in
-    let t = with_pins (slot_at cached c.args.slot) ((slot_at cached c.args.slot).pins - 1) in
-    let done : c.set_pins.new.slots.items ≡ slice_set c.self.inside.slots.items c.args.slot t = c.set_pins.ensures ∙ ap (λ p. slice_set c.self.inside.slots.items c.args.slot (with_pins (slot_at cached c.args.slot) (p - 1))) pins in
+    let some_pins : 0 < (slot_at cached c.args.slot).pins = subst (λ (x : Cached). 0 < (slot_at x c.args.slot).pins) (sym is) c.requires.pinned in
+    let t = slot_with_pins (slot_at cached c.args.slot) ((slot_at cached c.args.slot).pins - 1) in
+    let done : c.set_pins.new.slots.items ≡ slice_set c.self.inside.slots.items c.args.slot t = c.set_pins.ensures ∙ ap (λ p. slice_set c.self.inside.slots.items c.args.slot (slot_with_pins (slot_at cached c.args.slot) (p - 1))) pins in
     let may = may_pin cached c.args.cell c.args.slot ((slot_at cached c.args.slot).pins - 1) cached.order kept.cache live refl (λ _. refl) in
     let some : t.cell ≢ None = λ e. absurd (none_some c.args.cell (sym e ∙ owned.1)) in
     let more : nat_lt 1 c.pins_of-pins.result ≡ nat_lt 0 t.pins = ap (nat_lt 1) pins ∙ one_more_than (slot_at cached c.args.slot).pins in
@@ -32,18 +32,17 @@ invariant_of-self g c =
 
 pub returns-clause-runs : goal.returns-clause-runs
 returns-clause-runs g c =
-    let inside : CacheValue g.row.S.Denot = record { levels = c.self.inside.geometry; keys = c.self.inside.keys; stores = c.self.inside.stores.items; table = c.self.inside.table.items; slots = c.self.inside.slots.items; order = c.self.inside.recency; tally = c.self.inside.tally; unsaved = c.self.inside.unsaved.items } in
-    let is : inside ≡ c.args.self.now = c.self.view_is in
-    let cached : Cached = by g.S.Store.contents inside in
+    let cached = value_of g.S.Store.contents c.self.inside in
+    let is : cached ≡ c.args.self.now = c.self.view_is in
     let kept = c.self.invariant in
-    let live : slot_of cached c.args.cell ≡ Some c.args.slot = subst (λ (x : CacheValue g.row.S.Denot). slot_of (by g.S.Store.contents x) c.args.cell ≡ Some c.args.slot) (sym is) c.requires.live in
+    let live : slot_of cached c.args.cell ≡ Some c.args.slot = subst (λ (x : Cached). slot_of x c.args.cell ≡ Some c.args.slot) (sym is) c.requires.live in
     let owned = kept.cache.seated.in_slot c.args.cell c.args.slot live in
     let pins : c.pins_of-pins.result ≡ (slot_at cached c.args.slot).pins = grind (arith, common_steps) in
-    let some_pins : 0 < (slot_at cached c.args.slot).pins = subst (λ (x : CacheValue g.row.S.Denot). 0 < (slot_at (by g.S.Store.contents x) c.args.slot).pins) (sym is) c.requires.pinned in
-    let t = with_pins (slot_at cached c.args.slot) ((slot_at cached c.args.slot).pins - 1) in
-    let done : c.set_pins.new.slots.items ≡ slice_set c.self.inside.slots.items c.args.slot t = c.set_pins.ensures ∙ ap (λ p. slice_set c.self.inside.slots.items c.args.slot (with_pins (slot_at cached c.args.slot) (p - 1))) pins in
+    let some_pins : 0 < (slot_at cached c.args.slot).pins = subst (λ (x : Cached). 0 < (slot_at x c.args.slot).pins) (sym is) c.requires.pinned in
+    let t = slot_with_pins (slot_at cached c.args.slot) ((slot_at cached c.args.slot).pins - 1) in
+    let done : c.set_pins.new.slots.items ≡ slice_set c.self.inside.slots.items c.args.slot t = c.set_pins.ensures ∙ ap (λ p. slice_set c.self.inside.slots.items c.args.slot (slot_with_pins (slot_at cached c.args.slot) (p - 1))) pins in
     let may = may_pin cached c.args.cell c.args.slot ((slot_at cached c.args.slot).pins - 1) cached.order kept.cache live refl (λ _. refl) in
-    subst (λ (x : CacheValue g.row.S.Denot). Runs (by g.S.Store.contents x) (happening.Unpin 0 c.args.cell ∷ []) (by g.S.Store.contents (record { levels = c.self.inside.geometry; keys = c.self.inside.keys; stores = c.self.inside.stores.items; table = c.self.inside.table.items; slots = c.set_pins.new.slots.items; order = c.self.inside.recency; tally = c.self.inside.tally; unsaved = c.self.inside.unsaved.items }))) is
+    subst (λ (x : Cached). Runs x (happening.Unpin 0 c.args.cell ∷ []) (record { levels = c.self.inside.geometry; keys = c.self.inside.keys; shown = map g.S.Store.contents c.self.inside.stores.items; table = c.self.inside.table.items; slots = c.set_pins.new.slots.items; order = c.self.inside.recency; tally = c.self.inside.tally; unsaved = c.self.inside.unsaved.items })) is
     (rw done (record {
       moves = moves_unpin cached c.args.cell c.args.slot cached.tally kept.cache.counted kept.cache live some_pins;
       tally = sym (raised_none cached.tally (happening.Unpin 0 c.args.cell ∷ []) kept.cache.counted (uncounted_unpin c.args.cell));
@@ -51,15 +50,14 @@ returns-clause-runs g c =
 
 pub returns-clause-valid : goal.returns-clause-valid
 returns-clause-valid g c =
-    let inside : CacheValue g.row.S.Denot = record { levels = c.self.inside.geometry; keys = c.self.inside.keys; stores = c.self.inside.stores.items; table = c.self.inside.table.items; slots = c.self.inside.slots.items; order = c.self.inside.recency; tally = c.self.inside.tally; unsaved = c.self.inside.unsaved.items } in
-    let is : inside ≡ c.args.self.now = c.self.view_is in
-    let cached : Cached = by g.S.Store.contents inside in
+    let cached = value_of g.S.Store.contents c.self.inside in
+    let is : cached ≡ c.args.self.now = c.self.view_is in
     let kept = c.self.invariant in
-    let live : slot_of cached c.args.cell ≡ Some c.args.slot = subst (λ (x : CacheValue g.row.S.Denot). slot_of (by g.S.Store.contents x) c.args.cell ≡ Some c.args.slot) (sym is) c.requires.live in
+    let live : slot_of cached c.args.cell ≡ Some c.args.slot = subst (λ (x : Cached). slot_of x c.args.cell ≡ Some c.args.slot) (sym is) c.requires.live in
     let owned = kept.cache.seated.in_slot c.args.cell c.args.slot live in
     let pins : c.pins_of-pins.result ≡ (slot_at cached c.args.slot).pins = grind (arith, common_steps) in
-    let some_pins : 0 < (slot_at cached c.args.slot).pins = subst (λ (x : CacheValue g.row.S.Denot). 0 < (slot_at (by g.S.Store.contents x) c.args.slot).pins) (sym is) c.requires.pinned in
-    let t = with_pins (slot_at cached c.args.slot) ((slot_at cached c.args.slot).pins - 1) in
-    let done : c.set_pins.new.slots.items ≡ slice_set c.self.inside.slots.items c.args.slot t = c.set_pins.ensures ∙ ap (λ p. slice_set c.self.inside.slots.items c.args.slot (with_pins (slot_at cached c.args.slot) (p - 1))) pins in
+    let some_pins : 0 < (slot_at cached c.args.slot).pins = subst (λ (x : Cached). 0 < (slot_at x c.args.slot).pins) (sym is) c.requires.pinned in
+    let t = slot_with_pins (slot_at cached c.args.slot) ((slot_at cached c.args.slot).pins - 1) in
+    let done : c.set_pins.new.slots.items ≡ slice_set c.self.inside.slots.items c.args.slot t = c.set_pins.ensures ∙ ap (λ p. slice_set c.self.inside.slots.items c.args.slot (slot_with_pins (slot_at cached c.args.slot) (p - 1))) pins in
     let may = may_pin cached c.args.cell c.args.slot ((slot_at cached c.args.slot).pins - 1) cached.order kept.cache live refl (λ _. refl) in
     rw done (cache_kept cached c.args.cell c.args.slot t cached.shown cached.order cached.tally kept.cache.counted kept.cache may)
