@@ -10,8 +10,8 @@ use Rattle.scale_pick.specs.declared.view.View.{View}
 use Rattle.scale_pick.specs.Picture.{Pixels}
 use Rattle.sole_cache.specs.Cached.{Cached}
 use Rattle.sole_cache.specs.Acquires.{Acquires}
-use Rattle.volatile_cell.specs.Steps.{Follows}
-use Rattle.hier_paint.specs.Sight.{opening}
+use Rattle.sole_eyes.specs.Steps.{FollowsStep}
+use Rattle.hier_paint.specs.Sight.{opening_sight}
 use Rattle.hier_paint.specs.Visits.{Visit}
 use Rattle.hier_paint.specs.Frames.{IsVisited, IsVisitedTo}
 use Rattle.alike_caches.specs.Alike.{AreAlike}
@@ -21,6 +21,7 @@ use Rattle.alike_frames.proofs.Ways.{Spot, Refused, spots, row_spots, value_at, 
 use Rattle.alike_frames.proofs.Spots.{voxel_in_range}
 use Rattle.alike_frames.proofs.Going.{Going}
 use Rattle.alike_frames.proofs.Framing.{AreSameAt, frames_alike}
+use Rattle.sole_eyes.specs.SoleEyes.{sole}
 
 -- how a frame closes: it is painted; or a look is refused
 abbrev IsClosed : List Level → Cached → List Event → List StoreCall → List StoreCall → Option AcquireErr → Option Refused → Cached → Type 0
@@ -39,15 +40,15 @@ record IsLaid (levels : List Level) (c : Cached) (viewer : ℕ) (view : View) (p
   cut : Option Refused
   visits : List Visit
   way : IsRest levels view picture cut (spots picture.width picture.height) visits
-  going : Going viewer levels between left cut (opening view.strategy) visits events
-  follows : Follows c events before between
+  going : Going viewer levels between left cut (opening_sight view.strategy) visits events
+  follows : FollowsStep c events before between
   calls_are : calls ++ m ≡ before ++ left
   closed : IsClosed levels between piece left m r cut d
 
 laid : (levels : List Level) (c : Cached) (viewer : ℕ) (view : View) (picture : Pixels) (r : Option AcquireErr) (events piece : List Event) (calls m : List StoreCall) (d : Cached)
     → c.levels ≡ levels → MakesFrame c viewer view picture r events piece calls d → IsLaid levels c viewer view picture r events piece calls m d
 laid levels c viewer view picture None events piece calls m d same (f, none) =
-    let v = subst (λ (ls : List Level). IsVisited 0 viewer ls view picture events) same f.visited in
+    let v = subst (λ (ls : List Level). IsVisited (sole viewer ls) view picture events) same f.visited in
     record {
       width = f.width;
       height = f.height;
@@ -63,7 +64,7 @@ laid levels c viewer view picture None events piece calls m d same (f, none) =
       closed = (refl, refl, none);
     }
 laid levels c viewer view picture (Some err) events piece calls m d same f =
-    let v = subst (λ (ls : List Level). IsVisitedTo 0 viewer ls view picture f.cell events) same f.visited in
+    let v = subst (λ (ls : List Level). IsVisitedTo (sole viewer ls) view picture f.cell events) same f.visited in
     record {
       width = v.width;
       height = v.height;
@@ -162,6 +163,6 @@ frames_are_alike laws c d c' d' viewer view picture other r s e f p q k l m n al
     let height : other.height ≡ picture.height = b.height ∙ sym a.height in
     let t : Tandem z c d e f = record { alike = alike; levels = refl; calls = a.before; others = b.before; follows = a.follows; goes = b.follows; fail = subst₂ FailAlike a.calls_are b.calls_are fail } in
     let way : IsRest c.levels view other b.cut (spots picture.width picture.height) b.visits = subst₂ (λ w h. IsRest c.levels view other b.cut (spots w h) b.visits) width height b.way in
-    let out = frames_alike laws z viewer view picture other a.cut b.cut (spots picture.width picture.height) c d (opening view.strategy) a.visits b.visits e f a.way way a.going b.going t in
+    let out = frames_alike laws z viewer view picture other a.cut b.cut (spots picture.width picture.height) c d (opening_sight view.strategy) a.visits b.visits e f a.way way a.going b.going t in
     let close = closing laws c.levels a.between b.between c' d' p q a.left b.left m n r s a.cut b.cut out.levels out.same_end a.closed b.closed out.alike out.fail in
     (close.0, out.same_events, close.1, λ painted. shows picture other width height (out.same (not_cut c.levels a.between c' p a.left m r a.cut painted a.closed)), close.2, close.3)

@@ -11,7 +11,7 @@ use Rattle.scale_pick.specs.Wanted.{wanted_level}
 use Rattle.sole_cache.specs.Cached.{Cached}
 use Rattle.volatile_cell.specs.Budget.{loads_by}
 use Rattle.hier_paint.specs.Sight.{Sight}
-use Rattle.hier_paint.specs.Visits.{Visit, reading, skipping, IsLookedFor}
+use Rattle.hier_paint.specs.Visits.{Visit, reading_visit, skipping, IsLookedFor}
 use Rattle.alike_caches.specs.Alike.{AreAlike}
 use Rattle.alike_frames.proofs.Tandem.{AlikeLaws, Ends, Tandem}
 use Rattle.alike_frames.proofs.Getting.{Refuses}
@@ -79,12 +79,12 @@ module _ (laws : AlikeLaws) (z : Ends) (viewer : ℕ) (view : View) (picture oth
   both_read_at : (spot : Spot) (rest : List Spot) → GoAlike rest → (level cell at x cell' at' y : ℕ) (c d : Cached) (s : Sight) (more more' : List Visit) (e f : List Event)
       → HasVoxel z.levels view.affine level spot.x spot.y cell at → value_at picture spot ≡ shown x view.low view.high → mask_at picture spot ≡ level → Rest rest more
       → HasVoxel z.levels view.affine level spot.x spot.y cell' at' → value_at other spot ≡ shown y view.low view.high → mask_at other spot ≡ level → Other rest more'
-      → First s (reading level cell at x ∷ more) e → Second s (reading level cell' at' y ∷ more') f → Tandem z c d e f → Result (spot ∷ rest) e f
+      → First s (reading_visit level cell at x ∷ more) e → Second s (reading_visit level cell' at' y ∷ more') f → Tandem z c d e f → Result (spot ∷ rest) e f
   both_read_at spot rest go_alike level cell at x cell' at' y c d s more more' e f voxel value mask way voxel' value' mask' way' going going' t =
       let place = one_voxel z.levels view.affine level spot.x spot.y cell at cell' at' voxel voxel' in
-      let same : reading level cell' at' y ∷ more' ≡ reading level cell at y ∷ more' = ap₂ (λ m n. reading level m n y ∷ more') (sym place.0) (sym place.1) in
-      let a = go_on viewer z.levels z.first z.left cut s (reading level cell at x) more e going in
-      let b = go_on viewer z.levels z.second z.other fate s (reading level cell at y) more' f (subst (λ (v : List Visit). Second s v f) same going') in
+      let same : reading_visit level cell' at' y ∷ more' ≡ reading_visit level cell at y ∷ more' = ap₂ (λ m n. reading_visit level m n y ∷ more') (sym place.0) (sym place.1) in
+      let a = go_on viewer z.levels z.first z.left cut s (reading_visit level cell at x) more e going in
+      let b = go_on viewer z.levels z.second z.other fate s (reading_visit level cell at y) more' f (subst (λ (v : List Visit). Second s v f) same going') in
       let on = both_visit laws z viewer c d s a.then b.then level cell at x y a.first b.first a.rest b.rest a.asked b.asked (voxel_in_range z.levels view.affine level spot.x spot.y cell at voxel)
       a.visit b.visit (subst₂ (Tandem z c d) a.is b.is t) in
       let r = go_alike on.3.c on.3.d a.then more more' a.rest b.rest way way' a.going (subst (λ (u : Sight). Second u more' b.rest) on.1 b.going) on.3.pair in
@@ -94,10 +94,10 @@ module _ (laws : AlikeLaws) (z : Ends) (viewer : ℕ) (view : View) (picture oth
   -- one reads it, and the other is cut off there
   read_cut : (spot : Spot) (rest : List Spot) (level cell at x cell' at' : ℕ) (c d : Cached) (s : Sight) (more : List Visit) (e f : List Event)
       → HasVoxel z.levels view.affine level spot.x spot.y cell at → HasVoxel z.levels view.affine level spot.x spot.y cell' at' → fate ≡ Some (record { level = level; cell = cell' })
-      → First s (reading level cell at x ∷ more) e → Second s [] f → Tandem z c d e f → ⊥
+      → First s (reading_visit level cell at x ∷ more) e → Second s [] f → Tandem z c d e f → ⊥
   read_cut spot rest level cell at x cell' at' c d s more e f voxel voxel' is going going' t =
       let place = one_voxel z.levels view.affine level spot.x spot.y cell at cell' at' voxel voxel' in
-      let a = go_on viewer z.levels z.first z.left cut s (reading level cell at x) more e going in
+      let a = go_on viewer z.levels z.first z.left cut s (reading_visit level cell at x) more e going in
       let b = at_end viewer z.levels z.second z.other fate s f going' in
       let due = due_there s level cell cell' place.0 is b.1 in
       let (found, finds, are) = a.visit in
@@ -107,11 +107,11 @@ module _ (laws : AlikeLaws) (z : Ends) (viewer : ℕ) (view : View) (picture oth
 
   cut_read : (spot : Spot) (rest : List Spot) (level cell at x cell' at' : ℕ) (c d : Cached) (s : Sight) (more : List Visit) (e f : List Event)
       → HasVoxel z.levels view.affine level spot.x spot.y cell at → HasVoxel z.levels view.affine level spot.x spot.y cell' at' → cut ≡ Some (record { level = level; cell = cell' })
-      → First s [] e → Second s (reading level cell at x ∷ more) f → Tandem z c d e f → ⊥
+      → First s [] e → Second s (reading_visit level cell at x ∷ more) f → Tandem z c d e f → ⊥
   cut_read spot rest level cell at x cell' at' c d s more e f voxel voxel' is going going' t =
       let place = one_voxel z.levels view.affine level spot.x spot.y cell at cell' at' voxel voxel' in
       let a = at_end viewer z.levels z.first z.left cut s e going in
-      let b = go_on viewer z.levels z.second z.other fate s (reading level cell at x) more f going' in
+      let b = go_on viewer z.levels z.second z.other fate s (reading_visit level cell at x) more f going' in
       let due = due_at s level cell cell' place.0 is a.1 in
       let (found, finds, are) = b.visit in
       let f_is : f ≡ found ++ (event.Read 0 cell at x ∷ b.rest) = b.is ∙ ap (λ (es : List Event). es ++ b.rest) are ∙ append_assoc found (event.Read 0 cell at x ∷ []) b.rest in
@@ -173,7 +173,7 @@ module _ (laws : AlikeLaws) (z : Ends) (viewer : ℕ) (view : View) (picture oth
   not_skip_end spot rest level cell at c d s more w e f voxel (read cell' at' y more' voxel' value mask is way) going going' t =
       let place = one_voxel z.levels view.affine level spot.x spot.y cell at cell' at' voxel voxel' in
       let a = go_on viewer z.levels z.first z.left cut s (skipping level cell) more e going in
-      let b = go_on viewer z.levels z.second z.other fate s (reading level cell at' y) more' f (subst (λ (u : List Visit). Second s u f) (is ∙ ap (λ n. reading level n at' y ∷ more') (sym place.0)) going') in
+      let b = go_on viewer z.levels z.second z.other fate s (reading_visit level cell at' y) more' f (subst (λ (u : List Visit). Second s u f) (is ∙ ap (λ n. reading_visit level n at' y ∷ more') (sym place.0)) going') in
       let (found, finds, are) = b.visit in
       let f_is : f ≡ found ++ (event.Read 0 cell at' y ∷ b.rest) = b.is ∙ ap (λ (es : List Event). es ++ b.rest) are ∙ append_assoc found (event.Read 0 cell at' y ∷ []) b.rest in
       not_missed_ready laws z viewer c d s a.then b.then level cell a.first found a.rest (event.Read 0 cell at' y ∷ b.rest) a.asked b.asked
@@ -191,7 +191,7 @@ module _ (laws : AlikeLaws) (z : Ends) (viewer : ℕ) (view : View) (picture oth
   not_end_skip spot rest level cell at c d s more v e f voxel (blank last dark mask way) going going' t = no_voxel z.levels view.affine level spot.x spot.y cell at last voxel
   not_end_skip spot rest level cell at c d s more v e f voxel (read cell' at' x more' voxel' value mask is way) going going' t =
       let place = one_voxel z.levels view.affine level spot.x spot.y cell at cell' at' voxel voxel' in
-      let a = go_on viewer z.levels z.first z.left cut s (reading level cell at' x) more' e (subst (λ (u : List Visit). First s u e) (is ∙ ap (λ n. reading level n at' x ∷ more') (sym place.0)) going) in
+      let a = go_on viewer z.levels z.first z.left cut s (reading_visit level cell at' x) more' e (subst (λ (u : List Visit). First s u e) (is ∙ ap (λ n. reading_visit level n at' x ∷ more') (sym place.0)) going) in
       let b = go_on viewer z.levels z.second z.other fate s (skipping level cell) more f going' in
       let (found, finds, are) = a.visit in
       let e_is : e ≡ found ++ (event.Read 0 cell at' x ∷ a.rest) = a.is ∙ ap (λ (es : List Event). es ++ a.rest) are ∙ append_assoc found (event.Read 0 cell at' x ∷ []) a.rest in

@@ -13,12 +13,13 @@ use Rattle.sole_cache.specs.Cached.{Cached, slot_of}
 use Rattle.sole_cache.specs.Acquires.{MakesRoom, IsAcquire, Acquires}
 use Rattle.volatile_cell.specs.Asked.{Asked}
 use Rattle.volatile_cell.specs.Budget.{Allowance, loads_by, spent}
-use Rattle.volatile_cell.specs.Pieces.{misses, IsTurnOut, IsGranted}
+use Rattle.call_events.specs.Pieces.{misses, IsTurnOut, IsGranted}
 use Rattle.volatile_cell.specs.Looks.{IsReadyLook}
-use Rattle.volatile_cell.specs.Steps.{Follows}
+use Rattle.sole_eyes.specs.Steps.{FollowsStep}
 use Rattle.alike_frames.proofs.Parts.{IsEnded, has_live, is_calm}
 use Rattle.alike_frames.proofs.Peeling.{begins_small, begins_missing, begins_loading, nothing_left}
 use Rattle.alike_frames.proofs.Tandem.{AlikeLaws, Ends, Tandem, Onward, live_absent, absent_live, refused_absent, both_pin, both_load}
+use Rattle.sole_eyes.specs.SoleEyes.{sole}
 
 -- the events that give a handle
 abbrev pub Gets : ℕ → Bool → List Event → Type 0
@@ -29,7 +30,7 @@ load_ended : (cell slot : ℕ) (turn : List Event) → IsTurnOut 0 turn → IsEn
 load_ended cell slot turn (inl none) = subst (λ (t : List Event). IsEnded (t ++ Live 0 cell slot ∷ []) × (has_live (t ++ Live 0 cell slot ∷ []) ≡ true)) (sym none) (refl, refl)
 load_ended cell slot turn (inr out) = subst (λ (t : List Event). IsEnded (t ++ Live 0 cell slot ∷ []) × (has_live (t ++ Live 0 cell slot ∷ []) ≡ true)) (sym out.2) (refl, refl)
 
-pub gets_of : (cell : ℕ) (loaded : Bool) (piece : List Event) → IsGranted 0 cell loaded piece → Gets cell loaded piece
+pub gets_of : (cell : ℕ) (loaded : Bool) (piece : List Event) → IsGranted true 0 cell loaded piece → Gets cell loaded piece
 gets_of cell false piece g = g.2 ∙ ap (λ n. misses 0 cell n ++ Pin 0 cell ∷ []) (g.1 refl)
 gets_of cell true piece g =
     let ended = load_ended cell g.2 g.3 g.4 in
@@ -41,12 +42,12 @@ pub record IsReady (cell : ℕ) (b : Allowance) (loaded : Bool) (left : Allowanc
   pub left_is : left ≡ cond (loads_by b.strategy b.left) (spent b loaded) b
   pub unloaded : loads_by b.strategy b.left ≡ false → loaded ≡ false
 
-pub ready_of : (cell : ℕ) (b : Allowance) (loaded : Bool) (left : Allowance) (piece : List Event) (calls : List Asked) → IsReadyLook 0 cell b loaded left piece calls → IsReady cell b loaded left piece
+pub ready_of : {viewer : ℕ} {levels : List Level} (cell : ℕ) (b : Allowance) (loaded : Bool) (left : Allowance) (piece : List Event) (calls : List Asked) → IsReadyLook (sole viewer levels) cell b loaded left piece calls → IsReady cell b loaded left piece
 ready_of cell b loaded left piece calls look =
     let parts = go (loads_by b.strategy b.left) look.pinned in
     record { gets = parts.0; left_is = parts.1; unloaded = parts.2 }
   where
-    go : (t : Bool) → MatchBool t (IsGranted 0 cell loaded piece × (left ≡ spent b loaded)) ((loaded ≡ false) × (piece ≡ Pin 0 cell ∷ []) × (left ≡ b))
+    go : (t : Bool) → MatchBool t (IsGranted true 0 cell loaded piece × (left ≡ spent b loaded)) ((loaded ≡ false) × (piece ≡ Pin 0 cell ∷ []) × (left ≡ b))
         → Gets cell loaded piece × (left ≡ cond t (spent b loaded) b) × (t ≡ false → loaded ≡ false)
     go true h = (gets_of cell loaded piece h.0, h.1, λ t. absurd (true≢false t))
     go false h = (subst (λ v. Gets cell v piece) (sym h.0) h.1, h.2, λ _. h.0)
@@ -78,12 +79,12 @@ module _ (laws : AlikeLaws) (z : Ends) where
   both_get c d cell false false p q e f inside h g t =
       (refl, g ∙ sym h, both_pin laws z c d cell e f (subst₂ (λ (a b : List Event). Tandem z c d (a ++ e) (b ++ f)) h g t))
   both_get c d cell false true p q e f inside h (part, ended, lives, is) t =
-      let live = begins_small c (Pin 0 cell) e t.calls z.first refl (subst (λ (a : List Event). Follows c (a ++ e) t.calls z.first) h t.follows) in
-      let load = begins_loading d cell part f t.others z.second ended (subst (λ (a : List Event). Follows d (a ++ f) t.others z.second) is t.goes) in
+      let live = begins_small c (Pin 0 cell) e t.calls z.first refl (subst (λ (a : List Event). FollowsStep c (a ++ e) t.calls z.first) h t.follows) in
+      let load = begins_loading d cell part f t.others z.second ended (subst (λ (a : List Event). FollowsStep d (a ++ f) t.others z.second) is t.goes) in
       absurd (live_absent c d cell live.tells.0 t.alike live.tells.1 load.absent)
   both_get c d cell true false p q e f inside (part, ended, lives, is) g t =
-      let load = begins_loading c cell part e t.calls z.first ended (subst (λ (a : List Event). Follows c (a ++ e) t.calls z.first) is t.follows) in
-      let live = begins_small d (Pin 0 cell) f t.others z.second refl (subst (λ (a : List Event). Follows d (a ++ f) t.others z.second) g t.goes) in
+      let load = begins_loading c cell part e t.calls z.first ended (subst (λ (a : List Event). FollowsStep c (a ++ e) t.calls z.first) is t.follows) in
+      let live = begins_small d (Pin 0 cell) f t.others z.second refl (subst (λ (a : List Event). FollowsStep d (a ++ f) t.others z.second) g t.goes) in
       absurd (absent_live c d cell live.tells.0 t.alike load.absent live.tells.1)
   both_get c d cell true true p q e f inside (part, ended, lives, is) (part', ended', lives', is') t =
       let on = both_load laws z c d cell part part' e f inside ended ended' (subst₂ (λ (a b : List Event). Tandem z c d (a ++ e) (b ++ f)) is is' t) in
@@ -105,12 +106,12 @@ module _ (laws : AlikeLaws) (z : Ends) where
   -- not one got and the other refused
   pub not_get_refused : (c d : Cached) (cell : ℕ) (loaded : Bool) (p e : List Event) → cell < cells_of z.levels → Gets cell loaded p → Tandem z c d (p ++ e) [] → Refuses z.second cell z.other → ⊥
   not_get_refused c d cell false p e inside h t r =
-      let live = begins_small c (Pin 0 cell) e t.calls z.first refl (subst (λ (a : List Event). Follows c (a ++ e) t.calls z.first) h t.follows) in
+      let live = begins_small c (Pin 0 cell) e t.calls z.first refl (subst (λ (a : List Event). FollowsStep c (a ++ e) t.calls z.first) h t.follows) in
       let absent = refused_absent z.second cell r.err r.events r.asked r.acquires.is in
       let here = nothing_left d t.others z.second t.goes in
       live_absent c d cell live.tells.0 t.alike live.tells.1 (subst (λ (b : Cached). slot_of b cell ≡ None) here.0 absent)
   not_get_refused c d cell true p e inside (part, ended, lives, is) t r =
-      let load = begins_loading c cell part e t.calls z.first ended (subst (λ (a : List Event). Follows c (a ++ e) t.calls z.first) is t.follows) in
+      let load = begins_loading c cell part e t.calls z.first ended (subst (λ (a : List Event). FollowsStep c (a ++ e) t.calls z.first) is t.follows) in
       let here = nothing_left d t.others z.second t.goes in
       let acquires : Acquires d cell (Err r.err) r.events r.asked r.after = subst (λ (b : Cached). Acquires b cell (Err r.err) r.events r.asked r.after) here.0 r.acquires in
       let fail : FailAlike (load.asked ++ (load.more ++ z.left)) (r.asked ++ r.more) =
@@ -121,12 +122,12 @@ module _ (laws : AlikeLaws) (z : Ends) where
 
   pub not_refused_get : (c d : Cached) (cell : ℕ) (loaded : Bool) (p e : List Event) → cell < cells_of z.levels → Gets cell loaded p → Tandem z c d [] (p ++ e) → Refuses z.first cell z.left → ⊥
   not_refused_get c d cell false p e inside h t r =
-      let live = begins_small d (Pin 0 cell) e t.others z.second refl (subst (λ (a : List Event). Follows d (a ++ e) t.others z.second) h t.goes) in
+      let live = begins_small d (Pin 0 cell) e t.others z.second refl (subst (λ (a : List Event). FollowsStep d (a ++ e) t.others z.second) h t.goes) in
       let absent = refused_absent z.first cell r.err r.events r.asked r.acquires.is in
       let here = nothing_left c t.calls z.first t.follows in
       absent_live c d cell live.tells.0 t.alike (subst (λ (b : Cached). slot_of b cell ≡ None) here.0 absent) live.tells.1
   not_refused_get c d cell true p e inside (part, ended, lives, is) t r =
-      let load = begins_loading d cell part e t.others z.second ended (subst (λ (a : List Event). Follows d (a ++ e) t.others z.second) is t.goes) in
+      let load = begins_loading d cell part e t.others z.second ended (subst (λ (a : List Event). FollowsStep d (a ++ e) t.others z.second) is t.goes) in
       let here = nothing_left c t.calls z.first t.follows in
       let acquires : Acquires c cell (Err r.err) r.events r.asked r.after = subst (λ (b : Cached). Acquires b cell (Err r.err) r.events r.asked r.after) here.0 r.acquires in
       let fail : FailAlike (r.asked ++ r.more) (load.asked ++ (load.more ++ z.other)) =

@@ -15,6 +15,7 @@ use Rattle.alike_frames.proofs.Tandem.{AlikeLaws, Ends, Tandem, both_give_back}
 use Rattle.alike_frames.proofs.Getting.{Refuses}
 use Rattle.alike_frames.proofs.Visiting.{calm_visits, calm_end}
 use Rattle.alike_frames.proofs.Ways.{Refused}
+use Rattle.sole_eyes.specs.SoleEyes.{sole}
 
 -- what is known of a frame's end: where a look is refused, it is due, and loads
 abbrev pub IsFate : Cached → List StoreCall → Sight → Option Refused → Type 0
@@ -26,7 +27,7 @@ module _ (viewer : ℕ) (levels : List Level) (end : Cached) (left : List StoreC
     pub last : Sight
     pub looks : List Event
     pub calls : List Asked
-    pub are : AreVisits 0 viewer levels s visits last looks calls
+    pub are : AreVisits (sole viewer levels) s visits last looks calls
     pub events_are : events ≡ looks ++ given_back 0 last.held
     pub fate : IsFate end left last cut
 
@@ -36,7 +37,7 @@ module _ (viewer : ℕ) (levels : List Level) (end : Cached) (left : List StoreC
     pub first : List Event
     pub rest : List Event
     pub asked : List Asked
-    pub visit : IsVisit 0 viewer levels s v.level v.note then first asked
+    pub visit : IsVisit (sole viewer levels) s v.level v.note then first asked
     pub going : Going then visits rest
     pub is : events ≡ first ++ rest
 

@@ -14,7 +14,7 @@ use Rattle.sole_cache.specs.Handle.{Handle}
 use Rattle.sole_cache.specs.Moves.{Runs}
 use Rattle.sole_cache.specs.Pieces.{IsHit, IsLook}
 use Rattle.sole_cache.specs.Acquires.{MakesRoom, Loads, Drops, HoldsUp, IsAcquire, Acquires, Quiet}
-use Rattle.volatile_cell.specs.Steps.{IsStep, AreSteps, Follows}
+use Rattle.sole_eyes.specs.Steps.{IsStep, AreSteps, FollowsStep}
 use Rattle.alike_frames.proofs.Parts.{is_end, IsEnded, is_missing, is_calm, same_tail, same_head, ended_same}
 
 -- what is known of a cache where a step is one event
@@ -125,7 +125,7 @@ pub record BeginsSmall (c : Cached) (e : Event) (rest : List Event) (calls : Lis
   pub mid : Cached
   pub quiet : Quiet c (e ∷ []) mid
   pub tells : Tells c e
-  pub follows : Follows mid rest calls d
+  pub follows : FollowsStep mid rest calls d
 
 -- the first of some steps loads a cell, or can't
 pub record BeginsLarge (c : Cached) (e : Event) (rest : List Event) (calls : List StoreCall) (d : Cached) : Type 0 where
@@ -141,13 +141,13 @@ pub record BeginsLarge (c : Cached) (e : Event) (rest : List Event) (calls : Lis
   pub ended : IsEnded part
   pub absent : slot_of c cell ≡ None
   pub acquires : Acquires c cell result (Miss 0 cell ∷ Claim 0 cell ∷ part) asked mid
-  pub follows : Follows mid later more d
+  pub follows : FollowsStep mid later more d
   pub calls_are : calls ≡ asked ++ more
 
 abbrev Begins : Cached → Event → List Event → List StoreCall → Cached → Type 0
 Begins c e rest calls d = BeginsSmall c e rest calls d ⊎ BeginsLarge c e rest calls d
 
-begins_by : (c mid d : Cached) (e : Event) (rest first later : List Event) (calls asked more : List StoreCall) → IsForm c first asked mid → Follows mid later more d
+begins_by : (c mid d : Cached) (e : Event) (rest first later : List Event) (calls asked more : List StoreCall) → IsForm c first asked mid → FollowsStep mid later more d
     → e ∷ rest ≡ first ++ later → calls ≡ asked ++ more → Begins c e rest calls d
 begins_by c mid d e rest first later calls asked more (inl one) follows are called =
     let joined : e ∷ rest ≡ one.event ∷ later = are ∙ ap (λ (es : List Event). es ++ later) one.is in
@@ -158,7 +158,7 @@ begins_by c mid d e rest first later calls asked more (inl one) follows are call
       mid = mid;
       quiet = subst (λ (v : Event). Quiet c (v ∷ []) mid) same one.quiet;
       tells = subst (Tells c) same one.tells;
-      follows = subst (λ (k : List StoreCall). Follows mid rest k d) calls_are (subst (λ (es : List Event). Follows mid es more d) left follows);
+      follows = subst (λ (k : List StoreCall). FollowsStep mid rest k d) calls_are (subst (λ (es : List Event). FollowsStep mid es more d) left follows);
     })
 begins_by c mid d e rest first later calls asked more (inr load) follows are called =
     let joined : e ∷ rest ≡ Miss 0 load.cell ∷ Claim 0 load.cell ∷ (load.rest ++ later) = are ∙ ap (λ (es : List Event). es ++ later) load.is in
@@ -180,7 +180,7 @@ begins_by c mid d e rest first later calls asked more (inr load) follows are cal
     })
 
 -- some steps begin by one of these forms
-begins : (c : Cached) (e : Event) (rest : List Event) (calls : List StoreCall) (d : Cached) → Follows c (e ∷ rest) calls d → Begins c e rest calls d
+begins : (c : Cached) (e : Event) (rest : List Event) (calls : List StoreCall) (d : Cached) → FollowsStep c (e ∷ rest) calls d → Begins c e rest calls d
 begins c e rest calls d f = go f.count f.steps
   where
     go : (count : ℕ) → AreSteps count c (e ∷ rest) calls d → Begins c e rest calls d
@@ -189,7 +189,7 @@ begins c e rest calls d f = go f.count f.steps
         begins_by c mid d e rest first later calls asked more (step_form c first asked mid step) (record { count = n; steps = steps }) are called
 
 -- no events are no steps
-pub nothing_left : (c : Cached) (calls : List StoreCall) (d : Cached) → Follows c [] calls d → (d ≡ c) × (calls ≡ [])
+pub nothing_left : (c : Cached) (calls : List StoreCall) (d : Cached) → FollowsStep c [] calls d → (d ≡ c) × (calls ≡ [])
 nothing_left c calls d f = go f.count f.steps
   where
     go : (count : ℕ) → AreSteps count c [] calls d → (d ≡ c) × (calls ≡ [])
@@ -201,7 +201,7 @@ nothing_left c calls d f = go f.count f.steps
         none (inr load) = let joined : [] ≡ Miss 0 load.cell ∷ Claim 0 load.cell ∷ (load.rest ++ later) = are ∙ ap (λ (es : List Event). es ++ later) load.is in cc joined
 
 -- an event that is no miss is a step
-pub begins_small : (c : Cached) (e : Event) (rest : List Event) (calls : List StoreCall) (d : Cached) → is_missing e ≡ false → Follows c (e ∷ rest) calls d → BeginsSmall c e rest calls d
+pub begins_small : (c : Cached) (e : Event) (rest : List Event) (calls : List StoreCall) (d : Cached) → is_missing e ≡ false → FollowsStep c (e ∷ rest) calls d → BeginsSmall c e rest calls d
 begins_small c e rest calls d other f = go (begins c e rest calls d f)
   where
     go : Begins c e rest calls d → BeginsSmall c e rest calls d
@@ -209,7 +209,7 @@ begins_small c e rest calls d other f = go (begins c e rest calls d f)
     go (inr large) = absurd (true≢false (sym (ap is_missing large.is_miss) ∙ other))
 
 -- so is a miss, where no loading goes on from it
-pub begins_missing : (c : Cached) (e : Event) (rest : List Event) (calls : List StoreCall) (d : Cached) → is_calm rest ≡ true → Follows c (e ∷ rest) calls d → BeginsSmall c e rest calls d
+pub begins_missing : (c : Cached) (e : Event) (rest : List Event) (calls : List StoreCall) (d : Cached) → is_calm rest ≡ true → FollowsStep c (e ∷ rest) calls d → BeginsSmall c e rest calls d
 begins_missing c e rest calls d calm f = go (begins c e rest calls d f)
   where
     go : Begins c e rest calls d → BeginsSmall c e rest calls d
@@ -224,15 +224,15 @@ pub record BeginsLoading (c : Cached) (cell : ℕ) (part later : List Event) (ca
   pub more : List StoreCall
   pub absent : slot_of c cell ≡ None
   pub acquires : Acquires c cell result (Miss 0 cell ∷ Claim 0 cell ∷ part) asked mid
-  pub follows : Follows mid later more d
+  pub follows : FollowsStep mid later more d
   pub calls_are : calls ≡ asked ++ more
 
 -- a miss and a claim are the beginning of a loading
 pub begins_loading : (c : Cached) (cell : ℕ) (part later : List Event) (calls : List StoreCall) (d : Cached) → IsEnded part
-    → Follows c (Miss 0 cell ∷ Claim 0 cell ∷ (part ++ later)) calls d → BeginsLoading c cell part later calls d
+    → FollowsStep c (Miss 0 cell ∷ Claim 0 cell ∷ (part ++ later)) calls d → BeginsLoading c cell part later calls d
 begins_loading c cell part later calls d ended f = go (begins c (Miss 0 cell) (Claim 0 cell ∷ (part ++ later)) calls d f)
   where
-    no_claim : (b : Cached) → Follows b (Claim 0 cell ∷ (part ++ later)) calls d → ⊥
+    no_claim : (b : Cached) → FollowsStep b (Claim 0 cell ∷ (part ++ later)) calls d → ⊥
     no_claim b g = (begins_small b (Claim 0 cell) (part ++ later) calls d refl g).tells
 
     go : Begins c (Miss 0 cell) (Claim 0 cell ∷ (part ++ later)) calls d → BeginsLoading c cell part later calls d
@@ -247,6 +247,6 @@ begins_loading c cell part later calls d ended f = go (begins c (Miss 0 cell) (C
           more = large.more;
           absent = subst (λ n. slot_of c n ≡ None) same large.absent;
           acquires = subst (λ (es : List Event). Acquires c cell large.result (Miss 0 cell ∷ Claim 0 cell ∷ es) large.asked large.mid) parts.0 (subst (λ n. Acquires c n large.result (Miss 0 n ∷ Claim 0 n ∷ large.part) large.asked large.mid) same large.acquires);
-          follows = subst (λ (es : List Event). Follows large.mid es large.more d) parts.1 large.follows;
+          follows = subst (λ (es : List Event). FollowsStep large.mid es large.more d) parts.1 large.follows;
           calls_are = large.calls_are;
         }

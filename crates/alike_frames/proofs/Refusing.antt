@@ -20,8 +20,8 @@ use Rattle.sole_cache.specs.Moves.{Runs}
 use Rattle.sole_cache.specs.Room.{IsLowestFree, IsVictim}
 use Rattle.sole_cache.specs.Pieces.{IsHit}
 use Rattle.sole_cache.specs.Acquires.{MakesRoom, Loads, Drops, HoldsUp, IsAcquire, Acquires}
-use Rattle.volatile_cell.specs.Pieces.{misses, IsTurnOut, IsDropped, IsHeldUp, IsRefused}
-use Rattle.volatile_cell.specs.Steps.{Follows}
+use Rattle.call_events.specs.Pieces.{misses, IsTurnOut, IsDropped, IsHeldUp, IsRefused}
+use Rattle.sole_eyes.specs.Steps.{FollowsStep}
 use Rattle.alike_frames.proofs.Parts.{IsEnded, has_live}
 use Rattle.alike_frames.proofs.Peeling.{begins_loading, nothing_left}
 
@@ -106,7 +106,7 @@ one_way c d n err cause e f k l (inr h) (inl g) went came = absurd (not_gone_bac
 abbrev IsTried : ℕ → List Event → Type 0
 IsTried n piece = (part : List Event) × IsEnded part × (has_live part ≡ false) × (piece ≡ Miss 0 n ∷ Claim 0 n ∷ part)
 
-dropped_tried : (n : ℕ) (piece : List Event) → IsDropped 0 n piece → IsTried n piece
+dropped_tried : (n : ℕ) (piece : List Event) → IsDropped true 0 n piece → IsTried n piece
 dropped_tried n piece d = go d.3
   where
     is : piece ≡ Miss 0 n ∷ Claim 0 n ∷ (d.2 ++ Drop 0 n ∷ [])
@@ -116,13 +116,13 @@ dropped_tried n piece d = go d.3
     go (inl none) = (Drop 0 n ∷ [], refl, refl, is ∙ ap (λ (t : List Event). Miss 0 n ∷ Claim 0 n ∷ (t ++ Drop 0 n ∷ [])) none)
     go (inr (v, saved, out)) = (Close 0 v ∷ Gone 0 v saved ∷ Drop 0 n ∷ [], refl, refl, is ∙ ap (λ (t : List Event). Miss 0 n ∷ Claim 0 n ∷ (t ++ Drop 0 n ∷ [])) out)
 
-held_tried : (n : ℕ) (piece : List Event) → IsHeldUp 0 n piece → IsTried n piece
+held_tried : (n : ℕ) (piece : List Event) → IsHeldUp true 0 n piece → IsTried n piece
 held_tried n piece h = (Close 0 h.2 ∷ Back 0 h.2 ∷ Drop 0 n ∷ [], refl, refl, h.3 ∙ ap (λ m. misses 0 n (suc m) ++ (Claim 0 n ∷ Close 0 h.2 ∷ Back 0 h.2 ∷ Drop 0 n ∷ [])) (h.1 refl))
 
 -- where they lead, a cell was dropped or held up
-tried_way : (c d : Cached) (n : ℕ) (piece : List Event) (k : List StoreCall) → IsTried n piece → Follows c piece k d → (err : AcquireErr) × (asked : List StoreCall) × (Drops c n err piece asked ⊎ HoldsUp c n err piece asked) × Runs c piece d
+tried_way : (c d : Cached) (n : ℕ) (piece : List Event) (k : List StoreCall) → IsTried n piece → FollowsStep c piece k d → (err : AcquireErr) × (asked : List StoreCall) × (Drops c n err piece asked ⊎ HoldsUp c n err piece asked) × Runs c piece d
 tried_way c d n piece k (part, ended, no_live, is) follows =
-    let b = begins_loading c n part [] k d ended (subst (λ (es : List Event). Follows c es k d) (is ∙ ap (λ (t : List Event). Miss 0 n ∷ Claim 0 n ∷ t) (sym (append-nil part))) follows) in
+    let b = begins_loading c n part [] k d ended (subst (λ (es : List Event). FollowsStep c es k d) (is ∙ ap (λ (t : List Event). Miss 0 n ∷ Claim 0 n ∷ t) (sym (append-nil part))) follows) in
     let here = nothing_left b.mid b.more d b.follows in
     let runs : Runs c piece d = subst₂ (Runs c) (sym is) (sym here.0) b.acquires.runs in
     go b.result b.asked b.acquires.is runs
@@ -144,7 +144,7 @@ tried_way c d n piece k (part, ended, no_live, is) follows =
     go (Err err) asked is_so runs = (err, asked, subst (λ (es : List Event). Drops c n err es asked ⊎ HoldsUp c n err es asked) (sym is) is_so, runs)
 
 -- a refusal that goes on from a miss
-tried_of : (n : ℕ) (err : AcquireErr) (piece : List Event) → (err ≡ refusal.Full → ⊥) → IsRefused 0 n err piece → IsTried n piece
+tried_of : (n : ℕ) (err : AcquireErr) (piece : List Event) → (err ≡ refusal.Full → ⊥) → IsRefused true 0 n err piece → IsTried n piece
 tried_of n refusal.ReadFault piece other r = dropped_tried n piece r
 tried_of n refusal.WriteFault piece other r = held_tried n piece r
 tried_of n (refusal.Malformed edited err) piece other r = dropped_tried n piece r
@@ -154,7 +154,7 @@ tried_of n refusal.Memory piece other (inl r) = dropped_tried n piece r
 tried_of n refusal.Memory piece other (inr r) = held_tried n piece r
 
 -- The events of a refused look are those of the acquire that was refused, where both lead from one cache to another.
-pub one_piece : (c d : Cached) (n : ℕ) (err : AcquireErr) (piece events : List Event) (k l : List StoreCall) → IsRefused 0 n err piece → Follows c piece k d → Acquires c n (Err err) events l d → events ≡ piece
+pub one_piece : (c d : Cached) (n : ℕ) (err : AcquireErr) (piece events : List Event) (k l : List StoreCall) → IsRefused true 0 n err piece → FollowsStep c piece k d → Acquires c n (Err err) events l d → events ≡ piece
 one_piece c d n refusal.Full piece events k l r follows a = a.is.2 ∙ sym r
 one_piece c d n err piece events k l r follows a =
     let way = tried_way c d n piece k (tried_of n err piece (λ e. cc e) r) follows in

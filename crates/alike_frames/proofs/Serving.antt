@@ -10,7 +10,7 @@ use Rattle.fetch_queue.specs.declared.request.Request.{Request}
 use Rattle.sole_cache.specs.Cached.{Cached}
 use Rattle.sole_cache.specs.Acquires.{Acquires}
 use Rattle.volatile_cell.specs.Asked.{Asked, AskedFrom}
-use Rattle.volatile_cell.specs.Steps.{Follows}
+use Rattle.sole_eyes.specs.Steps.{FollowsStep}
 use Rattle.volatile_cell.specs.declared.queue_reply.QueueReply.TheVariants as reply
 use Rattle.fetchers.specs.declared.served.Served.{Served}
 use Rattle.fetchers.specs.declared.served.Served.TheVariants.{Idle, Held, Loaded, Refused}
@@ -39,8 +39,8 @@ both_rest : (c d c' d' : Cached) (q r t : Queue) (e f : List Event) (u v : List 
     → Together c' d' r t Idle Idle e f u v m n
 both_rest c d c' d' q r t e f u v k l m n alike one two fail =
     let take = one_take q r t None None u v one.took two.took one.led two.led in
-    let here = nothing_left c k c' (subst (λ (es : List Event). Follows c es k c') one.none one.follows) in
-    let there = nothing_left d l d' (subst (λ (es : List Event). Follows d es l d') two.none two.follows) in (
+    let here = nothing_left c k c' (subst (λ (es : List Event). FollowsStep c es k c') one.none one.follows) in
+    let there = nothing_left d l d' (subst (λ (es : List Event). FollowsStep d es l d') two.none two.follows) in (
       refl,
       two.none ∙ sym one.none,
       take.1,
@@ -94,7 +94,7 @@ not_grant_refuse laws c d c' d' q r t loaded err e f u v k l m n alike one two f
     let cell = one.request.cell in
     let z : Ends = record { levels = c.levels; first = c'; second = d; left = m; other = l ++ n } in
     let pair : Tandem z c d (one.piece ++ Unpin 0 cell ∷ []) [] =
-    record { alike = alike; levels = refl; calls = k; others = []; follows = subst (λ (es : List Event). Follows c es k c') one.given_back one.follows; goes = record { count = 0; steps = (refl, refl, refl) }; fail = fail } in
+    record { alike = alike; levels = refl; calls = k; others = []; follows = subst (λ (es : List Event). FollowsStep c es k c') one.given_back one.follows; goes = record { count = 0; steps = (refl, refl, refl) }; fail = fail } in
     getting.not_get_refused laws z c d cell loaded one.piece (Unpin 0 cell ∷ []) one.takes.inside (getting.gets_of cell loaded one.piece one.granted) pair
     (record { err = err; events = f; asked = l; more = n; after = d'; acquires = subst (λ i. Acquires d i (Err err) f l d') cell_is two.acquires; calls_are = refl })
 
@@ -107,7 +107,7 @@ not_refuse_grant laws c d c' d' q r t loaded err e f u v k l m n alike one two f
     let z : Ends = record { levels = c.levels; first = c; second = d'; left = k ++ m; other = n } in
     let f_is : f ≡ two.piece ++ Unpin 0 cell ∷ [] = two.given_back ∙ ap (λ i. two.piece ++ Unpin 0 i ∷ []) cell_is in
     let pair : Tandem z c d [] (two.piece ++ Unpin 0 cell ∷ []) =
-    record { alike = alike; levels = refl; calls = []; others = l; follows = record { count = 0; steps = (refl, refl, refl) }; goes = subst (λ (es : List Event). Follows d es l d') f_is two.follows; fail = fail } in
+    record { alike = alike; levels = refl; calls = []; others = l; follows = record { count = 0; steps = (refl, refl, refl) }; goes = subst (λ (es : List Event). FollowsStep d es l d') f_is two.follows; fail = fail } in
     getting.not_refused_get laws z c d cell loaded two.piece (Unpin 0 cell ∷ []) one.takes.inside (subst (λ i. getting.Gets i loaded two.piece) cell_is (getting.gets_of two.request.cell loaded two.piece two.granted)) pair
     (record { err = err; events = e; asked = k; more = m; after = c'; acquires = one.acquires; calls_are = refl })
 

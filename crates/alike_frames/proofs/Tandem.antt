@@ -13,7 +13,7 @@ use Rattle.sole_cache.specs.Slot.{SlotValue}
 use Rattle.sole_cache.specs.Cached.{Cached, slot_of, state_at}
 use Rattle.sole_cache.specs.Handle.{Handle}
 use Rattle.sole_cache.specs.Acquires.{Acquires, IsAcquire}
-use Rattle.volatile_cell.specs.Steps.{Follows}
+use Rattle.sole_eyes.specs.Steps.{FollowsStep}
 use Rattle.hier_paint.specs.Sight.{given_back}
 use Rattle.alike_caches.specs.Alike.{AreAlike}
 use Rattle.arr_history.specs.Tally.{is_writeback}
@@ -42,8 +42,8 @@ pub record Tandem (z : Ends) (c d : Cached) (e f : List Event) : Type 0 where
   pub levels : c.levels ≡ z.levels
   pub calls : List StoreCall
   pub others : List StoreCall
-  pub follows : Follows c e calls z.first
-  pub goes : Follows d f others z.second
+  pub follows : FollowsStep c e calls z.first
+  pub goes : FollowsStep d f others z.second
   pub fail : FailAlike (calls ++ z.left) (others ++ z.other)
 
 pub record Onward (z : Ends) (e f : List Event) : Type 0 where
@@ -120,7 +120,7 @@ module _ (laws : AlikeLaws) (z : Ends) where
   -- two acquires lead on
   after_acquires : (c d mid nid : Cached) (cell : ℕ) (r s : Result Handle AcquireErr) (p q e f : List Event) (k l asked more asked' more' : List StoreCall)
       → AreAlike c d → c.levels ≡ z.levels → cell < cells_of z.levels → Acquires c cell r p asked mid → Acquires d cell s q asked' nid → k ≡ asked ++ more → l ≡ asked' ++ more'
-      → Follows mid e more z.first → Follows nid f more' z.second → FailAlike (k ++ z.left) (l ++ z.other) → (s ≡ r) × (q ≡ p) × Onward z e f
+      → FollowsStep mid e more z.first → FollowsStep nid f more' z.second → FailAlike (k ++ z.left) (l ++ z.other) → (s ≡ r) × (q ≡ p) × Onward z e f
   after_acquires c d mid nid cell r s p q e f k l asked more asked' more' a levels inside acq bcq k_is l_is follows goes fail =
       let joined : FailAlike (asked ++ (more ++ z.left)) (asked' ++ (more' ++ z.other)) =
       subst₂ FailAlike (ap (λ (v : List StoreCall). v ++ z.left) k_is ∙ append_assoc asked more z.left) (ap (λ (v : List StoreCall). v ++ z.other) l_is ∙ append_assoc asked' more' z.other) fail in

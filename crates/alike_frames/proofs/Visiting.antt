@@ -14,6 +14,7 @@ use Rattle.hier_paint.specs.Visits.{Visit, IsLookedFor, Finds, IsVisit, AreVisit
 use Rattle.alike_frames.proofs.Parts.{is_calm}
 use Rattle.alike_frames.proofs.Tandem.{AlikeLaws, Ends, Tandem, Onward, both_give_back, both_read, both_miss}
 use Rattle.alike_frames.proofs.Getting.{Gets, ready_of, Refuses, both_get, not_pin_miss, not_miss_pin, not_get_refused, not_refused_get}
+use Rattle.sole_eyes.specs.SoleEyes.{sole}
 
 calm_back : (held : Option ℕ) (events : List Event) → is_calm events ≡ true → is_calm (given_back 0 held ++ events) ≡ true
 calm_back None events h = h
@@ -24,7 +25,7 @@ calm_got cell false piece rest h = ap (λ (p : List Event). is_calm (p ++ rest))
 calm_got cell true piece rest h = ap (λ (p : List Event). is_calm (p ++ rest)) h.3
 
 module _ (viewer : ℕ) (levels : List Level) where
-  calm_found : (s t : Sight) (level cell : ℕ) (ready : Bool) (events rest : List Event) (calls : List Asked) → Finds 0 viewer levels s level cell ready t events calls → is_calm rest ≡ true → is_calm (events ++ rest) ≡ true
+  calm_found : (s t : Sight) (level cell : ℕ) (ready : Bool) (events rest : List Event) (calls : List Asked) → Finds (sole viewer levels) s level cell ready t events calls → is_calm rest ≡ true → is_calm (events ++ rest) ≡ true
   calm_found s t level cell true events rest calls (inl idle) h = ap (λ (p : List Event). is_calm (p ++ rest)) idle.1.none ∙ h
   calm_found s t level cell true events rest calls (inr look) h =
       ap (λ (p : List Event). is_calm (p ++ rest)) look.events_are ∙ ap is_calm (append_assoc (given_back 0 s.held) look.piece rest)
@@ -34,13 +35,13 @@ module _ (viewer : ℕ) (levels : List Level) where
       ap (λ (p : List Event). is_calm (p ++ rest)) look.events_are ∙ ap is_calm (append_assoc (given_back 0 s.held) look.piece rest)
       ∙ calm_back s.held (look.piece ++ rest) (ap (λ (p : List Event). is_calm (p ++ rest)) look.look.missed)
 
-  calm_visit : (s t : Sight) (level : ℕ) (n : Note) (events rest : List Event) (calls : List Asked) → IsVisit 0 viewer levels s level n t events calls → is_calm rest ≡ true → is_calm (events ++ rest) ≡ true
+  calm_visit : (s t : Sight) (level : ℕ) (n : Note) (events rest : List Event) (calls : List Asked) → IsVisit (sole viewer levels) s level n t events calls → is_calm rest ≡ true → is_calm (events ++ rest) ≡ true
   calm_visit s t level (note.Read cell at x) events rest calls (found, finds, is) h =
       ap (λ (p : List Event). is_calm (p ++ rest)) is ∙ ap is_calm (append_assoc found (event.Read 0 cell at x ∷ []) rest) ∙ calm_found s t level cell true found (event.Read 0 cell at x ∷ rest) calls finds refl
   calm_visit s t level (note.NotReady cell) events rest calls finds h = calm_found s t level cell false events rest calls finds h
 
   -- what is ahead of a frame doesn't begin in the midst of a loading
-  pub calm_visits : (s t : Sight) (visits : List Visit) (events rest : List Event) (calls : List Asked) → AreVisits 0 viewer levels s visits t events calls → is_calm rest ≡ true → is_calm (events ++ rest) ≡ true
+  pub calm_visits : (s t : Sight) (visits : List Visit) (events rest : List Event) (calls : List Asked) → AreVisits (sole viewer levels) s visits t events calls → is_calm rest ≡ true → is_calm (events ++ rest) ≡ true
   calm_visits s t [] events rest calls idle h = ap (λ (p : List Event). is_calm (p ++ rest)) idle.none ∙ h
   calm_visits s t (v ∷ visits) events rest calls (mid, first, later, asked, more, visit, are, is, called) h =
       ap (λ (p : List Event). is_calm (p ++ rest)) is ∙ ap is_calm (append_assoc first later rest)
@@ -60,7 +61,7 @@ module _ (laws : AlikeLaws) (z : Ends) (viewer : ℕ) where
 
   -- both find a cell ready
   both_ready : (c d : Cached) (s t u : Sight) (level cell : ℕ) (p q e f : List Event) (k l : List Asked) → cell < cells_of z.levels
-      → Finds 0 viewer z.levels s level cell true t p k → Finds 0 viewer z.levels s level cell true u q l → Tandem z c d (p ++ e) (q ++ f) → (u ≡ t) × (q ≡ p) × Onward z e f
+      → Finds (sole viewer z.levels) s level cell true t p k → Finds (sole viewer z.levels) s level cell true u q l → Tandem z c d (p ++ e) (q ++ f) → (u ≡ t) × (q ≡ p) × Onward z e f
   both_ready c d s t u level cell p q e f k l inside (inl h) (inl g) pair =
       (g.1.same ∙ sym h.1.same, g.1.none ∙ sym h.1.none, record { c = c; d = d; pair = moved c d p q [] [] e f h.1.none g.1.none pair })
   both_ready c d s t u level cell p q e f k l inside (inl h) (inr g) pair = absurd (true≢false (sym h.0 ∙ g.due.not_held))
@@ -75,7 +76,7 @@ module _ (laws : AlikeLaws) (z : Ends) (viewer : ℕ) where
 
   -- both find a cell not ready
   pub both_missed : (c d : Cached) (s t u : Sight) (level cell : ℕ) (p q e f : List Event) (k l : List Asked) → is_calm e ≡ true → is_calm f ≡ true
-      → Finds 0 viewer z.levels s level cell false t p k → Finds 0 viewer z.levels s level cell false u q l → Tandem z c d (p ++ e) (q ++ f) → (u ≡ t) × (q ≡ p) × Onward z e f
+      → Finds (sole viewer z.levels) s level cell false t p k → Finds (sole viewer z.levels) s level cell false u q l → Tandem z c d (p ++ e) (q ++ f) → (u ≡ t) × (q ≡ p) × Onward z e f
   both_missed c d s t u level cell p q e f k l calm quiet (inl h) (inl g) pair =
       (g.2.same ∙ sym h.2.same, g.2.none ∙ sym h.2.none, record { c = c; d = d; pair = moved c d p q [] [] e f h.2.none g.2.none pair })
   both_missed c d s t u level cell p q e f k l calm quiet (inl h) (inr g) pair = absurd (true≢false (sym h.1 ∙ g.due.not_missed))
@@ -91,7 +92,7 @@ module _ (laws : AlikeLaws) (z : Ends) (viewer : ℕ) where
 
   -- not one ready and the other not
   pub not_ready_missed : (c d : Cached) (s t u : Sight) (level cell : ℕ) (p q e f : List Event) (k l : List Asked) → is_calm f ≡ true
-      → Finds 0 viewer z.levels s level cell true t p k → Finds 0 viewer z.levels s level cell false u q l → Tandem z c d (p ++ e) (q ++ f) → ⊥
+      → Finds (sole viewer z.levels) s level cell true t p k → Finds (sole viewer z.levels) s level cell false u q l → Tandem z c d (p ++ e) (q ++ f) → ⊥
   not_ready_missed c d s t u level cell p q e f k l calm (inl h) (inl g) pair = true≢false (sym h.0 ∙ g.0)
   not_ready_missed c d s t u level cell p q e f k l calm (inl h) (inr g) pair = true≢false (sym h.0 ∙ g.due.not_held)
   not_ready_missed c d s t u level cell p q e f k l calm (inr h) (inl g) pair = true≢false (sym g.1 ∙ h.due.not_missed)
@@ -102,7 +103,7 @@ module _ (laws : AlikeLaws) (z : Ends) (viewer : ℕ) where
       not_pin_miss laws z free.c free.d cell e f calm (moved free.c free.d h.piece g.piece (event.Pin 0 cell ∷ []) (event.Miss 0 cell ∷ []) e f pin g.look.missed free.pair)
 
   pub not_missed_ready : (c d : Cached) (s t u : Sight) (level cell : ℕ) (p q e f : List Event) (k l : List Asked) → is_calm e ≡ true
-      → Finds 0 viewer z.levels s level cell false t p k → Finds 0 viewer z.levels s level cell true u q l → Tandem z c d (p ++ e) (q ++ f) → ⊥
+      → Finds (sole viewer z.levels) s level cell false t p k → Finds (sole viewer z.levels) s level cell true u q l → Tandem z c d (p ++ e) (q ++ f) → ⊥
   not_missed_ready c d s t u level cell p q e f k l calm (inl h) (inl g) pair = true≢false (sym g.0 ∙ h.0)
   not_missed_ready c d s t u level cell p q e f k l calm (inr h) (inl g) pair = true≢false (sym g.0 ∙ h.due.not_held)
   not_missed_ready c d s t u level cell p q e f k l calm (inl h) (inr g) pair = true≢false (sym h.1 ∙ g.due.not_missed)
@@ -114,7 +115,7 @@ module _ (laws : AlikeLaws) (z : Ends) (viewer : ℕ) where
 
   -- not one ready and the other refused
   pub not_ready_cut : (c d : Cached) (s t : Sight) (level cell : ℕ) (p e : List Event) (k : List Asked) → cell < cells_of z.levels
-      → Finds 0 viewer z.levels s level cell true t p k → IsLookedFor s level cell → Tandem z c d (p ++ e) (given_back 0 s.held) → Refuses z.second cell z.other → ⊥
+      → Finds (sole viewer z.levels) s level cell true t p k → IsLookedFor s level cell → Tandem z c d (p ++ e) (given_back 0 s.held) → Refuses z.second cell z.other → ⊥
   not_ready_cut c d s t level cell p e k inside (inl h) due pair r = true≢false (sym h.0 ∙ due.not_held)
   not_ready_cut c d s t level cell p e k inside (inr h) due pair r =
       let one = ready_of cell s.budget h.loaded h.left h.piece k h.look in
@@ -125,7 +126,7 @@ module _ (laws : AlikeLaws) (z : Ends) (viewer : ℕ) where
       not_get_refused laws z free.c free.d cell h.loaded h.piece e inside one.gets free.pair r
 
   pub not_cut_ready : (c d : Cached) (s t : Sight) (level cell : ℕ) (p e : List Event) (k : List Asked) → cell < cells_of z.levels
-      → Finds 0 viewer z.levels s level cell true t p k → IsLookedFor s level cell → Tandem z c d (given_back 0 s.held) (p ++ e) → Refuses z.first cell z.left → ⊥
+      → Finds (sole viewer z.levels) s level cell true t p k → IsLookedFor s level cell → Tandem z c d (given_back 0 s.held) (p ++ e) → Refuses z.first cell z.left → ⊥
   not_cut_ready c d s t level cell p e k inside (inl h) due pair r = true≢false (sym h.0 ∙ due.not_held)
   not_cut_ready c d s t level cell p e k inside (inr h) due pair r =
       let one = ready_of cell s.budget h.loaded h.left h.piece k h.look in
@@ -136,13 +137,13 @@ module _ (laws : AlikeLaws) (z : Ends) (viewer : ℕ) where
       not_refused_get laws z free.c free.d cell h.loaded h.piece e inside one.gets free.pair r
 
   -- nor one not ready and the other refused
-  pub not_missed_cut : (s t : Sight) (level cell : ℕ) (p : List Event) (k : List Asked) → Finds 0 viewer z.levels s level cell false t p k → IsLookedFor s level cell → loads_by s.budget.strategy s.budget.left ≡ true → ⊥
+  pub not_missed_cut : (s t : Sight) (level cell : ℕ) (p : List Event) (k : List Asked) → Finds (sole viewer z.levels) s level cell false t p k → IsLookedFor s level cell → loads_by s.budget.strategy s.budget.left ≡ true → ⊥
   not_missed_cut s t level cell p k (inl h) due loads = true≢false (sym h.1 ∙ due.not_missed)
   not_missed_cut s t level cell p k (inr h) due loads = true≢false (sym loads ∙ h.look.loads_no_more)
 
   -- both visit a voxel, and read it
   pub both_visit : (c d : Cached) (s t u : Sight) (level cell at x y : ℕ) (p q e f : List Event) (k l : List Asked) → cell < cells_of z.levels
-      → IsVisit 0 viewer z.levels s level (note.Read cell at x) t p k → IsVisit 0 viewer z.levels s level (note.Read cell at y) u q l → Tandem z c d (p ++ e) (q ++ f)
+      → IsVisit (sole viewer z.levels) s level (note.Read cell at x) t p k → IsVisit (sole viewer z.levels) s level (note.Read cell at y) u q l → Tandem z c d (p ++ e) (q ++ f)
       → (y ≡ x) × (u ≡ t) × (q ≡ p) × Onward z e f
   both_visit c d s t u level cell at x y p q e f k l inside (found, finds, is) (seen, sees, are) pair =
       let opened = subst₂ (Tandem z c d) (ap (λ (a : List Event). a ++ e) is ∙ append_assoc found (event.Read 0 cell at x ∷ []) e) (ap (λ (a : List Event). a ++ f) are ∙ append_assoc seen (event.Read 0 cell at y ∷ []) f) pair in

@@ -6,7 +6,7 @@ use Rattle.scale_pick.specs.Shade.{shown}
 use Rattle.scale_pick.specs.Pixel.{HasVoxel, IsOutside}
 use Rattle.scale_pick.specs.Picture.{Pixels, place}
 use Rattle.scale_pick.specs.Wanted.{wanted_level}
-use Rattle.hier_paint.specs.Visits.{Visit, reading, skipping}
+use Rattle.hier_paint.specs.Visits.{Visit, reading_visit, skipping}
 use Rattle.hier_paint.specs.Ways.{IsLevelWay, AreSkipped, IsPixelWay, IsRowWay, AreRowWays, IsPixelCut, IsCut}
 
 -- a column and a row
@@ -39,7 +39,7 @@ module _ (levels : List Level) (view : View) where
   pub data IsEnd (picture : Pixels) (s : Spot) (Rest : List Visit → Type 0) (cut : Option Refused) (level : ℕ) (visits : List Visit) : Type 0 where
     outside : IsOutside levels view.affine level s.x s.y → value_at picture s ≡ 0 → mask_at picture s ≡ level → Rest visits → IsEnd picture s Rest cut level visits
     read : (cell at number : ℕ) (more : List Visit) → HasVoxel levels view.affine level s.x s.y cell at → value_at picture s ≡ shown number view.low view.high → mask_at picture s ≡ level
-        → visits ≡ reading level cell at number ∷ more → Rest more → IsEnd picture s Rest cut level visits
+        → visits ≡ reading_visit level cell at number ∷ more → Rest more → IsEnd picture s Rest cut level visits
     blank : level ≡ length levels → value_at picture s ≡ 0 → mask_at picture s ≡ 255 → Rest visits → IsEnd picture s Rest cut level visits
     refused : (cell at : ℕ) → HasVoxel levels view.affine level s.x s.y cell at → visits ≡ [] → cut ≡ Some (record { level = level; cell = cell }) → IsEnd picture s Rest cut level visits
 

@@ -11,9 +11,10 @@ use Rattle.fetch_queue.specs.Queue.{Queue}
 use Rattle.sole_cache.specs.Cached.{Cached}
 use Rattle.sole_cache.specs.Acquires.{Acquires}
 use Rattle.volatile_cell.specs.Asked.{Asked, AskedFrom}
-use Rattle.volatile_cell.specs.Steps.{Follows}
+use Rattle.sole_eyes.specs.Steps.{FollowsStep}
 use Rattle.hier_paint.specs.Frames.{KeepsRule, IsVisited, IsVisitedTo}
 use Rattle.alike_caches.specs.Alike.{AreAlike}
+use Rattle.sole_eyes.specs.SoleEyes.{sole}
 
 -- two pictures of one size that show the same
 pub record ShowSame (p q : Pixels) : Type 0 where
@@ -26,16 +27,16 @@ pub record ShowSame (p q : Pixels) : Type 0 where
 pub record Paints (c : Cached) (viewer : ℕ) (view : View) (picture : Pixels) (events : List Event) (calls : List StoreCall) (d : Cached) : Type 0 where
   pub width : picture.width ≡ view.width
   pub height : picture.height ≡ view.height
-  pub visited : IsVisited 0 viewer c.levels view picture events
-  pub follows : Follows c events calls d
+  pub visited : IsVisited (sole viewer c.levels) view picture events
+  pub follows : FollowsStep c events calls d
 
 -- A frame was cut off, after these events, by a look that was refused, with its own events.
 pub record CutsOff (c : Cached) (viewer : ℕ) (view : View) (picture : Pixels) (err : AcquireErr) (events piece : List Event) (calls : List StoreCall) (d : Cached) : Type 0 where
   pub cell : ℕ
-  pub visited : IsVisitedTo 0 viewer c.levels view picture cell events
+  pub visited : IsVisitedTo (sole viewer c.levels) view picture cell events
   pub between : Cached
   pub before : List StoreCall
-  pub follows : Follows c events before between
+  pub follows : FollowsStep c events before between
   pub asked : List StoreCall
   pub acquires : Acquires between cell (Err err) piece asked d
   pub calls_are : calls ≡ before ++ asked

@@ -11,8 +11,8 @@ use Rattle.fetch_queue.specs.declared.request.Request.{Request}
 use Rattle.sole_cache.specs.Cached.{Cached}
 use Rattle.sole_cache.specs.Acquires.{Acquires}
 use Rattle.volatile_cell.specs.Asked.{Asked, AskedFrom}
-use Rattle.volatile_cell.specs.Pieces.{IsGranted}
-use Rattle.volatile_cell.specs.Steps.{Follows}
+use Rattle.call_events.specs.Pieces.{IsGranted}
+use Rattle.sole_eyes.specs.Steps.{FollowsStep}
 use Rattle.fetchers.specs.declared.served.Served.{Served}
 use Rattle.fetchers.specs.declared.served.Served.TheVariants.{Idle, Held, Loaded, Refused}
 use Rattle.fetchers.specs.declared.fetched.Fetched.{Fetched}
@@ -20,7 +20,7 @@ use Rattle.fetchers.specs.Servings.{taking, IsAnswer}
 use Rattle.alike_caches.specs.Alike.{AreAlike}
 
 -- The queue gave a request, whose cell is one of the cache's.
-pub record Takes (c : Cached) (q : Queue) (request : Request) (asked : List Asked) (r : Queue) : Type 0 where
+pub record TakesRequest (c : Cached) (q : Queue) (request : Request) (asked : List Asked) (r : Queue) : Type 0 where
   pub inside : request.cell < cells_of c.levels
   pub took : asked ≡ taking (Some request)
   pub led : AskedFrom q asked r
@@ -30,21 +30,21 @@ pub record Rests (c : Cached) (q : Queue) (events : List Event) (asked : List As
   pub took : asked ≡ taking None
   pub led : AskedFrom q asked r
   pub none : events ≡ []
-  pub follows : Follows c events calls d
+  pub follows : FollowsStep c events calls d
 
 -- The cell of a request was pinned, loaded or not, and given back.
 pub record Grants (c : Cached) (q : Queue) (loaded : Bool) (events : List Event) (asked : List Asked) (calls : List StoreCall) (d : Cached) (r : Queue) : Type 0 where
   pub request : Request
-  pub takes : Takes c q request asked r
+  pub takes : TakesRequest c q request asked r
   pub piece : List Event
-  pub granted : IsGranted 0 request.cell loaded piece
+  pub granted : IsGranted true 0 request.cell loaded piece
   pub given_back : events ≡ piece ++ Unpin 0 request.cell ∷ []
-  pub follows : Follows c events calls d
+  pub follows : FollowsStep c events calls d
 
 -- The cell of a request was refused.
 pub record Refuses (c : Cached) (q : Queue) (err : AcquireErr) (events : List Event) (asked : List Asked) (calls : List StoreCall) (d : Cached) (r : Queue) : Type 0 where
   pub request : Request
-  pub takes : Takes c q request asked r
+  pub takes : TakesRequest c q request asked r
   pub acquires : Acquires c request.cell (Err err) events calls d
 
 -- a serving, by what became of it

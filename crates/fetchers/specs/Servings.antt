@@ -11,42 +11,43 @@ use Rattle.fetch_queue.specs.declared.request.Request.{Request}
 use Rattle.volatile_cell.specs.declared.queue_call.QueueCall.TheVariants as call
 use Rattle.volatile_cell.specs.declared.queue_reply.QueueReply.TheVariants as reply
 use Rattle.volatile_cell.specs.Asked.{Asked, asked}
-use Rattle.volatile_cell.specs.Pieces.{IsGranted, IsRefused}
+use Rattle.call_events.specs.Pieces.{IsGranted, IsRefused}
 use Rattle.fetchers.specs.declared.served.Served.{Served}
 use Rattle.fetchers.specs.declared.served.Served.TheVariants.{Idle, Held, Loaded, Refused}
 use Rattle.fetchers.specs.declared.fetched.Fetched.{Fetched}
+use Rattle.volatile_cell.specs.Front.{Front}
 
 -- the queue was asked for the next request, and gave this
 abbrev pub taking : Option Request → List Asked
 taking request = asked call.Take (reply.Taken request) ∷ []
 
-module _ {E : Type 0} (leads : E → List Event → List Asked → E → Type 0) (levels : E → List Level) (number : E → ℕ) (caused : E → E → ℕ → AcquireErr → Type 0) where
+module _ {E : Type 0} (front : Front E) where
   -- The queue had no request.
   pub record IsIdleServing (e : E) (events : List Event) (calls : List Asked) (e' : E) : Type 0 where
     pub took : calls ≡ taking None
     pub none : events ≡ []
-    pub led : leads e events calls e'
+    pub led : front.leads e events calls e'
 
   -- The cell of a request was pinned, loaded or not, and given back.
   pub record IsGrantedServing (e : E) (loaded : Bool) (events : List Event) (calls : List Asked) (e' : E) : Type 0 where
     pub request : Request
-    pub inside : request.cell < cells_of (levels e)
+    pub inside : request.cell < cells_of (front.looker e).levels
     pub took : calls ≡ taking (Some request)
     pub piece : List Event
-    pub granted : IsGranted (number e) request.cell loaded piece
-    pub given_back : events ≡ piece ++ Unpin (number e) request.cell ∷ []
-    pub led : leads e events calls e'
+    pub granted : IsGranted (front.looker e).alone (front.looker e).pass request.cell loaded piece
+    pub given_back : events ≡ piece ++ Unpin (front.looker e).pass request.cell ∷ []
+    pub led : front.leads e events calls e'
 
   -- The cell of a request was refused, with its cause since the request was taken.
   pub record IsRefusedServing (e : E) (err : AcquireErr) (events : List Event) (calls : List Asked) (e' : E) : Type 0 where
     pub request : Request
-    pub inside : request.cell < cells_of (levels e)
+    pub inside : request.cell < cells_of (front.looker e).levels
     pub took : calls ≡ taking (Some request)
     pub mid : E
-    pub taken : leads e [] calls mid
-    pub tried : leads mid events [] e'
-    pub refused : IsRefused (number e) request.cell err events
-    pub cause : caused mid e' request.cell err
+    pub taken : front.leads e [] calls mid
+    pub tried : front.leads mid events [] e'
+    pub refused : IsRefused (front.looker e).alone (front.looker e).pass request.cell err events
+    pub cause : front.caused mid e' request.cell err
 
   -- A serving: its events and its call of the queue, by what became of it.
   abbrev pub IsServing : E → Served → List Event → List Asked → E → Type 0
@@ -62,6 +63,14 @@ module _ {E : Type 0} (leads : E → List Event → List Asked → E → Type 0)
       (mid : E) × (first : List Event) × (rest : List Event) × (asked : List Asked) × (more : List Asked)
       × IsServing e served first asked mid × AreServings mid servings rest more e' × (events ≡ first ++ rest) × (calls ≡ asked ++ more)
 
+  -- Servings that lead from one moment to another.
+  pub record AreServed (e e' : E) : Type 0 where
+    pub servings : List Served
+    pub events : List Event
+    pub calls : List Asked
+    pub led : front.leads e events calls e'
+    pub are : AreServings e servings events calls e'
+
 -- whether a fetch goes on after a serving: there was a request, and it wasn't refused for want of memory
 abbrev pub goes_on : Served → Bool
 goes_on Idle = false
@@ -72,9 +81,9 @@ abbrev pub is_loaded : Served → Bool
 is_loaded Loaded = true
 is_loaded other = false
 
-abbrev pub is_held : Served → Bool
-is_held Held = true
-is_held other = false
+abbrev pub was_held : Served → Bool
+was_held Held = true
+was_held other = false
 
 abbrev pub is_refused : Served → Bool
 is_refused (Refused err) = true
@@ -82,10 +91,10 @@ is_refused other = false
 
 -- how many servings came to what
 abbrev pub counts_of : List Served → Fetched
-counts_of servings = record { loaded = count_by is_loaded servings; held = count_by is_held servings; refused = count_by is_refused servings }
+counts_of servings = record { loaded = count_by is_loaded servings; held = count_by was_held servings; refused = count_by is_refused servings }
 
 -- So many requests were served.
-pub record IsWhole (count : ℕ) (servings : List Served) : Type 0 where
+pub record IsWholeFetch (count : ℕ) (servings : List Served) : Type 0 where
   pub served : IsTrue (list_all goes_on servings)
   pub all : length servings ≡ count
 
@@ -98,15 +107,15 @@ pub record IsEndedBy (last : Served) (count : ℕ) (servings : List Served) : Ty
 
 -- The servings of a fetch of so many requests, by its answer: it ends early where the queue has no more, or for want of memory.
 abbrev pub IsAnswer : {X : Type 0} → ℕ → List Served → Result Fetched X → Type 0
-IsAnswer count servings (Ok fetched) = (fetched ≡ counts_of servings) × (IsWhole count servings ⊎ IsEndedBy Idle count servings)
+IsAnswer count servings (Ok fetched) = (fetched ≡ counts_of servings) × (IsWholeFetch count servings ⊎ IsEndedBy Idle count servings)
 IsAnswer count servings (Err memory) = IsEndedBy (Refused refusal.Memory) count servings
 
-module _ {E : Type 0} (leads : E → List Event → List Asked → E → Type 0) (levels : E → List Level) (number : E → ℕ) (caused : E → E → ℕ → AcquireErr → Type 0) where
+module _ {E : Type 0} (front : Front E) where
   -- A fetch of so many requests: its servings lead from one moment to another.
   pub record IsFetch {X : Type 0} (e : E) (count : ℕ) (result : Result Fetched X) (e' : E) : Type 0 where
     pub servings : List Served
     pub events : List Event
     pub calls : List Asked
-    pub led : leads e events calls e'
-    pub are : AreServings leads levels number caused e servings events calls e'
+    pub led : front.leads e events calls e'
+    pub are : AreServings front e servings events calls e'
     pub answer : IsAnswer count servings result

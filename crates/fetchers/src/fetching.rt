@@ -17,7 +17,7 @@ pub type Memory = AllocError;
 /// An error where a serving was refused for want of memory; it serves no further then. Other refusals are counted.
 pub fn serve_up_to<E: Eyes>(eyes: &mut E, count: u32) -> Result<Fetched, Memory>
     requires free { E.held eyes.old ≡ 0 }
-    ensures fetch { IsFetch E.leads E.levels E.number E.caused eyes.old count result eyes.new }
+    ensures fetch { IsFetch E.front eyes.old count result eyes.new }
     ensures free { E.held eyes.new ≡ 0 }
 {
     let mut fetched = Fetched {

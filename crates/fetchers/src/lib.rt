@@ -5,11 +5,10 @@ mod fetched;
 mod fetching;
 mod served;
 mod serving;
+mod until_closed;
 
 pub use fetched::Fetched;
 pub use fetching::{Memory, serve_up_to};
 pub use served::Served;
 pub use serving::serve_one;
-
-#[cfg(test)]
-mod tests;
+pub use until_closed::serve_until_closed;

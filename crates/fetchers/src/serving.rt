@@ -12,7 +12,7 @@ use volatile_cell::Eyes;
 /// Idle exactly where the queue has no request; Refused exactly where the acquire was, with its error.
 pub fn serve_one<E: Eyes>(eyes: &mut E) -> Served
     requires free { E.held eyes.old ≡ 0 }
-    ensures served { (events : List Event) × (calls : List Asked) × IsServing E.leads E.levels E.number E.caused eyes.old result events calls eyes.new }
+    ensures served { (events : List Event) × (calls : List Asked) × IsServing E.front eyes.old result events calls eyes.new }
     ensures free { E.held eyes.new ≡ 0 }
 {
     let Some(request) = eyes.next() else {

@@ -11,7 +11,7 @@ use Rattle.cell_grid.specs.declared.place.Place.{Place}
 use Rattle.cell_grid.specs.Pyramid.{IsPyramid, IsVoxelOf}
 use Rattle.scale_pick.specs.Pixel.{HasVoxel, IsOutside}
 use Rattle.whole_affine.specs.Affine.{Map, IsMap, row_of, numerator_in}
-use Rattle.whole_affine.specs.Nearest.{IsFactor, coordinate, nearest_voxel}
+use Rattle.whole_affine.specs.Nearest.{IsFactor, nearest_coordinate, nearest_voxel}
 use Rattle.whole_affine.proofs.Division.{div_euclid-small, abs_sum, back}
 use Rattle.whole_affine.specs.declared.nearest_walk.NearestWalk.{NearestWalk}
 use Rattle.hier_paint.specs.Nearest.{IsNearest, IsSmall, IsWalk}
@@ -32,11 +32,11 @@ small_numerator row x y lx ly a b c =
     below : (n : ℕ) → n < 4096 → n ≤ 4095
     below n lt = omega arith
 
-small_coordinate : (m : Map) (factor : List ℕ) (x y axis : ℕ) → IsMap m → x < 4096 → y < 4096 → unsigned_abs (coordinate m factor x y axis) ≤ 2 ^ 47
+small_coordinate : (m : Map) (factor : List ℕ) (x y axis : ℕ) → IsMap m → x < 4096 → y < 4096 → unsigned_abs (nearest_coordinate m factor x y axis) ≤ 2 ^ 47
 small_coordinate m factor x y axis map_is lx ly =
     let n : ℤ = numerator_in (row_of m axis) x y in
     let small : unsigned_abs n ≤ 2 ^ 45 = small_numerator (row_of m axis) x y lx ly (map_is.small axis 0) (map_is.small axis 1) (map_is.small axis 2) in
-    let whole : unsigned_abs (coordinate m factor x y axis) ≤ unsigned_abs (n +ℤ n +ℤ pos m.q) = div_euclid-small (n +ℤ n +ℤ pos m.q) (2 * m.q * slice_index factor axis) in
+    let whole : unsigned_abs (nearest_coordinate m factor x y axis) ≤ unsigned_abs (n +ℤ n +ℤ pos m.q) = div_euclid-small (n +ℤ n +ℤ pos m.q) (2 * m.q * slice_index factor axis) in
     let outer : unsigned_abs (n +ℤ n +ℤ pos m.q) ≤ unsigned_abs (n +ℤ n) + m.q = abs_sum (n +ℤ n) (pos m.q) in
     let inner : unsigned_abs (n +ℤ n) ≤ unsigned_abs n + unsigned_abs n = abs_sum n n in
     omega (arith, small, whole, outer, inner, map_is.bounded)

@@ -13,8 +13,8 @@ use Rattle.scale_pick.specs.Picture.{Pixels}
 use Rattle.volatile_cell.specs.Asked.{Asked}
 use Rattle.volatile_cell.specs.Budget.{loads_of, whole}
 use Rattle.volatile_cell.specs.StrategyRule.{IsAllowed, requests_for, clearing}
-use Rattle.volatile_cell.specs.Pieces.{IsRefused}
-use Rattle.hier_paint.specs.Sight.{Sight, opening, nothing_missed, given_back}
+use Rattle.call_events.specs.Pieces.{IsRefused}
+use Rattle.hier_paint.specs.Sight.{Sight, opening_sight, nothing_missed, given_back}
 use Rattle.hier_paint.specs.Visits.{Visit, AreVisits}
 use Rattle.hier_paint.specs.Ways.{AreRowWays, IsCut}
 use Rattle.hier_paint.specs.Works.{Works, Fails}
@@ -22,6 +22,8 @@ use Rattle.hier_paint.specs.Frames.{KeepsRule, IsFrame, IsCutOff}
 use Rattle.hier_paint.proofs.Noting.{patience_by, Allows, follow_step, give_back_step}
 use Rattle.hier_paint.proofs.Telling.{Remembers, Covers, visits_told}
 use Rattle.hier_paint.proofs.Paintings.{rows_painted}
+use Rattle.volatile_cell.specs.Front.{Looker, Front, IsFront}
+use Rattle.volatile_cell.proofs.Fronts.{same_pass, same_levels}
 
 -- the whole budget of a strategy waits as the strategy does
 patience_whole : (s : Strategy) → patience_by s (loads_of s) ≡ patience s
@@ -53,85 +55,79 @@ remembers_nothing : Remembers nothing_missed []
 remembers_nothing = λ level cell h. let none : slice_index_or nothing_missed level None ≡ None = none_missed level in cc
 
 -- what visits from the beginning of a frame tell, and the giving back of what is held
-record Beginning (viewer : ℕ) (levels : List Level) (s : Strategy) (visits : List Visit) (events : List Event) (calls : List Asked) : Type 0 where
+record Beginning (who : Looker) (s : Strategy) (visits : List Visit) (events : List Event) (calls : List Asked) : Type 0 where
   covers : Covers visits (notes_of s events)
-  asked : calls ≡ requests_for s viewer levels (notes_of s events)
+  asked : calls ≡ requests_for s who.viewer who.levels (notes_of s events)
   allowed : IsAllowed s events
 
-begun : (k viewer : ℕ) (levels : List Level) (s : Strategy) (visits : List Visit) (last : Sight) (events : List Event) (calls : List Asked) → AreVisits k viewer levels (opening s) visits last events calls
-    → Beginning viewer levels s visits (events ++ given_back k last.held) calls
-begun k viewer levels s visits last events calls are =
-    let t = visits_told k viewer levels (opening s) visits last events calls are in
-    let step = follow_step viewer levels (whole s) last.budget last.budget events (given_back k last.held) calls [] t.seen [] t.step (give_back_step viewer levels last.budget k last.held) in
-    let all : List Event = events ++ given_back k last.held in
+begun : (who : Looker) (s : Strategy) (visits : List Visit) (last : Sight) (events : List Event) (calls : List Asked) → AreVisits who (opening_sight s) visits last events calls
+    → Beginning who s visits (events ++ given_back who.pass last.held) calls
+begun who s visits last events calls are =
+    let t = visits_told who (opening_sight s) visits last events calls are in
+    let step = follow_step who (whole s) last.budget last.budget events (given_back who.pass last.held) calls [] t.seen [] t.step (give_back_step who last.budget who.pass last.held) in
+    let all : List Event = events ++ given_back who.pass last.held in
     let noted : t.seen ≡ notes_of s all = sym (append-nil t.seen) ∙ sym step.noted ∙ ap (λ p. notes p all) (patience_whole s) in
     record {
       covers = subst (λ (ns : List Note). Covers visits ns) noted (t.learned [] remembers_nothing).1;
-      asked = sym (append-nil calls) ∙ step.asked ∙ ap (λ (ns : List Note). requests_for s viewer levels ns) (append-nil t.seen ∙ noted);
+      asked = sym (append-nil calls) ∙ step.asked ∙ ap (λ (ns : List Note). requests_for s who.viewer who.levels ns) (append-nil t.seen ∙ noted);
       allowed = allowed_whole s last.budget.left all step.allowed;
     }
 
-module _ {E : Type 0} (leads : E → List Event → List Asked → E → Type 0) (levels : E → List Level) (number viewer : E → ℕ)
-    (leads_on : (a b c : E) (p q : List Event) (u v : List Asked) → leads a p u b → leads b q v c → leads a (p ++ q) (u ++ v) c)
-    (same_levels : (a b : E) (p : List Event) (u : List Asked) → leads a p u b → levels a ≡ levels b)
-    (same_number : (a b : E) (p : List Event) (u : List Asked) → leads a p u b → number a ≡ number b)
-    (same_viewer : (a b : E) (p : List Event) (u : List Asked) → leads a p u b → viewer a ≡ viewer b) where
+module _ {E : Type 0} (front : Front E) (laws : IsFront front) where
   -- the visits of a frame, as they are for the eyes at its beginning
   pub record Begun (e e' : E) (view : View) (last : Sight) (visits : List Visit) : Type 0 where
     pub looks : List Event
     pub calls : List Asked
     pub count : ℕ
-    pub led : leads e (looks ++ given_back (number e) last.held) (clearing (viewer e) count ∷ calls) e'
-    pub are : AreVisits (number e) (viewer e) (levels e) (opening view.strategy) visits last looks calls
+    pub led : front.leads e (looks ++ given_back (front.looker e).pass last.held) (clearing (front.looker e).viewer count ∷ calls) e'
+    pub are : AreVisits (front.looker e) (opening_sight view.strategy) visits last looks calls
 
-  frame_begun : (e b m e' : E) (view : View) (s last : Sight) (count : ℕ) (Way : List Visit → Type 0) → leads e [] (clearing (viewer e) count ∷ []) b → s ≡ opening view.strategy
-      → (works : Works leads levels number viewer b s m last Way) → leads m (given_back (number b) last.held) [] e' → Begun e e' view last works.visits
+  frame_begun : (e b m e' : E) (view : View) (s last : Sight) (count : ℕ) (Way : List Visit → Type 0) → front.leads e [] (clearing (front.looker e).viewer count ∷ []) b → s ≡ opening_sight view.strategy
+      → (works : Works front b s m last Way) → front.leads m (given_back (front.looker b).pass last.held) [] e' → Begun e e' view last works.visits
   frame_begun e b m e' view s last count Way led start works back =
-      let c : List Asked = clearing (viewer e) count ∷ [] in
-      let k = same_number e b [] c led in
-      let own : leads m (given_back (number e) last.held) [] e' = subst (λ n. leads m (given_back n last.held) [] e') (sym k) back in
-      let looks_led = leads_on b m e' works.events (given_back (number e) last.held) works.calls [] works.led own in
+      let c : List Asked = clearing (front.looker e).viewer count ∷ [] in
+      let k = same_pass front laws e b [] c led in
+      let own : front.leads m (given_back (front.looker e).pass last.held) [] e' = subst (λ n. front.leads m (given_back n last.held) [] e') (sym k) back in
+      let looks_led = laws.leads_on b m e' works.events (given_back (front.looker e).pass last.held) works.calls [] works.led own in
       record {
         looks = works.events;
         calls = works.calls;
         count = count;
-        led = leads_on e b e' [] (works.events ++ given_back (number e) last.held) c works.calls led (subst (λ (us : List Asked). leads b (works.events ++ given_back (number e) last.held) us e') (append-nil works.calls) looks_led);
-        are = subst (λ n. AreVisits n (viewer e) (levels e) (opening view.strategy) works.visits last works.events works.calls) (sym k)
-            (subst (λ w. AreVisits (number b) w (levels e) (opening view.strategy) works.visits last works.events works.calls) (sym (same_viewer e b [] c led))
-            (subst (λ (ls : List Level). AreVisits (number b) (viewer b) ls (opening view.strategy) works.visits last works.events works.calls) (sym (same_levels e b [] c led))
-            (subst (λ (x : Sight). AreVisits (number b) (viewer b) (levels b) x works.visits last works.events works.calls) start works.are)));
+        led = laws.leads_on e b e' [] (works.events ++ given_back (front.looker e).pass last.held) c works.calls led (subst (λ (us : List Asked). front.leads b (works.events ++ given_back (front.looker e).pass last.held) us e') (append-nil works.calls) looks_led);
+        are = subst (λ (who : Looker). AreVisits who (opening_sight view.strategy) works.visits last works.events works.calls) (sym (laws.same e b [] c led))
+            (subst (λ (x : Sight). AreVisits (front.looker b) x works.visits last works.events works.calls) start works.are);
       }
 
-  keeps_rule : (e : E) (view : View) (visits : List Visit) (events : List Event) (calls : List Asked) (count : ℕ) → Beginning (viewer e) (levels e) view.strategy visits events calls → KeepsRule view (viewer e) (levels e) events (clearing (viewer e) count ∷ calls)
-  keeps_rule e view visits events calls count t = record { allowed = t.allowed; cleared = count; asked = ap (λ (us : List Asked). clearing (viewer e) count ∷ us) t.asked }
+  keeps_rule : (e : E) (view : View) (visits : List Visit) (events : List Event) (calls : List Asked) (count : ℕ) → Beginning (front.looker e) view.strategy visits events calls → KeepsRule view (front.looker e).viewer (front.looker e).levels events (clearing (front.looker e).viewer count ∷ calls)
+  keeps_rule e view visits events calls count t = record { allowed = t.allowed; cleared = count; asked = ap (λ (us : List Asked). clearing (front.looker e).viewer count ∷ us) t.asked }
 
-  pub frame_done : (e b m e' : E) (view : View) (picture : Pixels) (s last : Sight) (count : ℕ) → picture.width ≡ view.width → picture.height ≡ view.height → leads e [] (clearing (viewer e) count ∷ []) b → s ≡ opening view.strategy
-      → Works leads levels number viewer b s m last (AreRowWays (levels b) view picture picture.height) → leads m (given_back (number m) last.held) [] e' → IsFrame leads levels number viewer e e' view picture
+  pub frame_done : (e b m e' : E) (view : View) (picture : Pixels) (s last : Sight) (count : ℕ) → picture.width ≡ view.width → picture.height ≡ view.height → front.leads e [] (clearing (front.looker e).viewer count ∷ []) b → s ≡ opening_sight view.strategy
+      → Works front b s m last (AreRowWays (front.looker b).levels view picture picture.height) → front.leads m (given_back (front.looker m).pass last.held) [] e' → IsFrame front e e' view picture
   frame_done e b m e' view picture s last count width height led start works back =
-      let own = subst (λ n. leads m (given_back n last.held) [] e') (sym (same_number b m works.events works.calls works.led)) back in
-      let f = frame_begun e b m e' view s last count (AreRowWays (levels b) view picture picture.height) led start works own in
-      let way : AreRowWays (levels e) view picture picture.height works.visits = subst (λ (ls : List Level). AreRowWays ls view picture picture.height works.visits) (sym (same_levels e b [] (clearing (viewer e) count ∷ []) led)) works.way in
-      let events : List Event = f.looks ++ given_back (number e) last.held in
-      let t = begun (number e) (viewer e) (levels e) view.strategy works.visits last f.looks f.calls f.are in
+      let own = subst (λ n. front.leads m (given_back n last.held) [] e') (sym (same_pass front laws b m works.events works.calls works.led)) back in
+      let f = frame_begun e b m e' view s last count (AreRowWays (front.looker b).levels view picture picture.height) led start works own in
+      let way : AreRowWays (front.looker e).levels view picture picture.height works.visits = subst (λ (ls : List Level). AreRowWays ls view picture picture.height works.visits) (sym (same_levels front laws e b [] (clearing (front.looker e).viewer count ∷ []) led)) works.way in
+      let events : List Event = f.looks ++ given_back (front.looker e).pass last.held in
+      let t = begun (front.looker e) view.strategy works.visits last f.looks f.calls f.are in
       record {
         events = events;
-        calls = clearing (viewer e) f.count ∷ f.calls;
+        calls = clearing (front.looker e).viewer f.count ∷ f.calls;
         led = f.led;
-        painting = record { width = width; height = height; rows = rows_painted (levels e) view (notes_of view.strategy events) picture picture.height works.visits way t.covers };
+        painting = record { width = width; height = height; rows = rows_painted (front.looker e).levels view (notes_of view.strategy events) picture picture.height works.visits way t.covers };
         rule = keeps_rule e view works.visits events f.calls f.count t;
         visited = record { visits = works.visits; way = way; last = last; looks = f.looks; calls = f.calls; are = f.are; events_are = refl };
       }
 
-  pub frame_cut : (caused : E → E → ℕ → AcquireErr → Type 0) (e b e' : E) (view : View) (picture : Pixels) (s : Sight) (err : AcquireErr) (count : ℕ) → picture.width ≡ view.width → picture.height ≡ view.height → leads e [] (clearing (viewer e) count ∷ []) b → s ≡ opening view.strategy
-      → Fails leads levels number viewer caused b s e' err (IsCut (levels b) view picture) → IsCutOff leads levels number viewer caused e e' view picture err
-  frame_cut caused e b e' view picture s err count width height led start fails =
+  pub frame_cut : (e b e' : E) (view : View) (picture : Pixels) (s : Sight) (err : AcquireErr) (count : ℕ) → picture.width ≡ view.width → picture.height ≡ view.height → front.leads e [] (clearing (front.looker e).viewer count ∷ []) b → s ≡ opening_sight view.strategy
+      → Fails front b s e' err (IsCut (front.looker b).levels view picture) → IsCutOff front e e' view picture err
+  frame_cut e b e' view picture s err count width height led start fails =
       let f = frame_begun e b fails.between fails.free view s fails.last count (λ _. Unit {0}) led start fails.works fails.let_go in
-      let events : List Event = f.looks ++ given_back (number e) fails.last.held in
-      let t = begun (number e) (viewer e) (levels e) view.strategy fails.works.visits fails.last f.looks f.calls f.are in
+      let events : List Event = f.looks ++ given_back (front.looker e).pass fails.last.held in
+      let t = begun (front.looker e) view.strategy fails.works.visits fails.last f.looks f.calls f.are in
       record {
         between = fails.free;
         events = events;
-        calls = clearing (viewer e) f.count ∷ f.calls;
+        calls = clearing (front.looker e).viewer f.count ∷ f.calls;
         led = f.led;
         rule = keeps_rule e view fails.works.visits events f.calls f.count t;
         cell = fails.cell;
@@ -140,7 +136,7 @@ module _ {E : Type 0} (leads : E → List Event → List Asked → E → Type 0)
           height = height;
           visits = fails.works.visits;
           level = fails.level;
-          way = subst (λ (ls : List Level). IsCut ls view picture fails.works.visits fails.level fails.cell) (sym (same_levels e b [] (clearing (viewer e) count ∷ []) led)) fails.way;
+          way = subst (λ (ls : List Level). IsCut ls view picture fails.works.visits fails.level fails.cell) (sym (same_levels front laws e b [] (clearing (front.looker e).viewer count ∷ []) led)) fails.way;
           last = fails.last;
           looks = f.looks;
           calls = f.calls;
@@ -150,7 +146,7 @@ module _ {E : Type 0} (leads : E → List Event → List Asked → E → Type 0)
           events_are = refl;
         };
         piece = fails.piece;
-        refused = subst (λ (us : List Asked). leads fails.free fails.piece us e') fails.look.nothing_asked fails.refused;
-        look = subst (λ k. IsRefused k fails.cell err fails.piece) (sym (same_number e b [] (clearing (viewer e) count ∷ []) led)) fails.look.refused;
+        refused = subst (λ (us : List Asked). front.leads fails.free fails.piece us e') fails.look.nothing_asked fails.refused;
+        look = subst (λ (who : Looker). IsRefused who.alone who.pass fails.cell err fails.piece) (sym (laws.same e b [] (clearing (front.looker e).viewer count ∷ []) led)) fails.look.refused;
         cause = fails.cause;
       }

@@ -10,3 +10,4 @@ pub mod Walking
 pub mod Boxing
 pub mod Holding
 pub mod Spanning
+pub mod Retelling

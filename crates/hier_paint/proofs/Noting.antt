@@ -14,14 +14,15 @@ use Rattle.scale_pick.specs.declared.strategy.Strategy.TheVariants.{Blocking, Bu
 use Rattle.scale_pick.specs.declared.note.Note.{Note}
 use Rattle.scale_pick.specs.declared.note.Note.TheVariants as note
 use Rattle.scale_pick.specs.Looks.{is_load, loads_in}
-use Rattle.scale_pick.specs.Notes.{patience_after, noted, notes, patience_left}
+use Rattle.scale_pick.specs.Notes.{patience_after, notes_of_event, notes, patience_left}
 use Rattle.volatile_cell.specs.Asked.{Asked}
 use Rattle.volatile_cell.specs.Budget.{Allowance, loads_by, left_after, spent}
 use Rattle.volatile_cell.specs.Requests.{requests}
 use Rattle.volatile_cell.specs.StrategyRule.{is_quiet, requests_for}
-use Rattle.volatile_cell.specs.Pieces.{misses, IsTurnOut, IsGranted}
+use Rattle.call_events.specs.Pieces.{misses, IsTurnOut, IsGranted}
 use Rattle.volatile_cell.specs.Looks.{IsReadyLook, IsNotReadyLook}
 use Rattle.hier_paint.specs.Sight.{given_back}
+use Rattle.volatile_cell.specs.Front.{Looker}
 
 -- after how many loads a miss is a cell that isn't ready, by what is left of a budget
 abbrev pub patience_by : Strategy → ℕ → Option ℕ
@@ -38,16 +39,16 @@ Allows Volatile left left' events = IsTrue (list_all is_quiet events)
 Allows DontLoad left left' events = IsTrue (list_all is_quiet events)
 
 -- what events do to a budget, what they note, and what the calls beside them ask for
-pub record Step (viewer : ℕ) (levels : List Level) (b b' : Allowance) (events : List Event) (calls : List Asked) (seen : List Note) : Type 0 where
+pub record Step (who : Looker) (b b' : Allowance) (events : List Event) (calls : List Asked) (seen : List Note) : Type 0 where
   pub noted : notes (patience_by b.strategy b.left) events ≡ seen
   pub patience : patience_left (patience_by b.strategy b.left) events ≡ patience_by b.strategy b'.left
   pub strategy : b'.strategy ≡ b.strategy
-  pub asked : calls ≡ requests_for b.strategy viewer levels seen
+  pub asked : calls ≡ requests_for b.strategy who.viewer who.levels seen
   pub allowed : Allows b.strategy b.left b'.left events
 
 pub notes-append : (p : Option ℕ) (xs ys : List Event) → notes p (xs ++ ys) ≡ notes p xs ++ notes (patience_left p xs) ys
 notes-append p [] ys = refl
-notes-append p (e ∷ xs) ys = ap (λ (ns : List Note). noted p e ++ ns) (notes-append (patience_after p e) xs ys) ∙ sym (append_assoc (noted p e) (notes (patience_after p e) xs) (notes (patience_left (patience_after p e) xs) ys))
+notes-append p (e ∷ xs) ys = ap (λ (ns : List Note). notes_of_event p e ++ ns) (notes-append (patience_after p e) xs ys) ∙ sym (append_assoc (notes_of_event p e) (notes (patience_after p e) xs) (notes (patience_left (patience_after p e) xs) ys))
 
 patience_left-append : (p : Option ℕ) (xs ys : List Event) → patience_left p (xs ++ ys) ≡ patience_left (patience_left p xs) ys
 patience_left-append p [] ys = refl
@@ -135,9 +136,9 @@ unnoted-load p k c slot turn w (inr o) = subst (λ (t : List Event). IsUnnoted p
     turned (Some (suc n)) w = record { none = refl; left = refl; count = refl }
 
 -- what gives a handle notes nothing, where a miss isn't noted yet
-granted-unnoted : (p : Option ℕ) (k c : ℕ) (loaded : Bool) (events : List Event) → Waits p → IsGranted k c loaded events → IsUnnoted p (after_load p loaded) (cond loaded 1 0) events
-granted-unnoted p k c false events w g = subst (IsUnnoted p (after_load p false) 0) (sym g.2) (unnoted-misses p _ 0 k c g.0 _ w (unnoted-pin p k c w))
-granted-unnoted p k c true events w g = subst (IsUnnoted p (after_load p true) 1) (sym g.5) (unnoted-misses p _ 1 k c (suc g.0) _ w (unnoted-load p k c g.2 g.3 w g.4))
+granted-unnoted : (p : Option ℕ) (alone : Bool) (k c : ℕ) (loaded : Bool) (events : List Event) → Waits p → IsGranted alone k c loaded events → IsUnnoted p (after_load p loaded) (cond loaded 1 0) events
+granted-unnoted p alone k c false events w g = subst (IsUnnoted p (after_load p false) 0) (sym g.2) (unnoted-misses p _ 0 k c g.0 _ w (unnoted-pin p k c w))
+granted-unnoted p alone k c true events w g = subst (IsUnnoted p (after_load p true) 1) (sym g.5) (unnoted-misses p _ 1 k c (suc g.0) _ w (unnoted-load p k c g.2 g.3 w g.4))
 
 some_left : (l : ℕ) → nat_lt 0 (suc l) ≡ true
 some_left l = grind (arith, nat_tests)
@@ -153,39 +154,39 @@ load_paid n l false = omega arith
 abbrev allowance : Strategy → ℕ → Allowance
 allowance s l = record { strategy = s; left = l }
 
-module _ (viewer : ℕ) (levels : List Level) where
-  pub idle_step : (b : Allowance) → Step viewer levels b b [] [] []
+module _ (who : Looker) where
+  pub idle_step : (b : Allowance) → Step who b b [] [] []
   idle_step b = record { noted = refl; patience = refl; strategy = refl; asked = refl; allowed = none_allowed b.strategy b.left }
 
-  pub follow_step : (b b' b'' : Allowance) (xs ys : List Event) (u v : List Asked) (s t : List Note) → Step viewer levels b b' xs u s → Step viewer levels b' b'' ys v t → Step viewer levels b b'' (xs ++ ys) (u ++ v) (s ++ t)
+  pub follow_step : (b b' b'' : Allowance) (xs ys : List Event) (u v : List Asked) (s t : List Note) → Step who b b' xs u s → Step who b' b'' ys v t → Step who b b'' (xs ++ ys) (u ++ v) (s ++ t)
   follow_step b b' b'' xs ys u v s t p q =
       let start = patience_by b.strategy b.left in
       let noted' : notes (patience_by b.strategy b'.left) ys ≡ t = subst (λ st. notes (patience_by st b'.left) ys ≡ t) p.strategy q.noted in
       let patience' : patience_left (patience_by b.strategy b'.left) ys ≡ patience_by b.strategy b''.left = subst (λ st. patience_left (patience_by st b'.left) ys ≡ patience_by st b''.left) p.strategy q.patience in
-      let asked' : v ≡ requests_for b.strategy viewer levels t = subst (λ st. v ≡ requests_for st viewer levels t) p.strategy q.asked in
+      let asked' : v ≡ requests_for b.strategy who.viewer who.levels t = subst (λ st. v ≡ requests_for st who.viewer who.levels t) p.strategy q.asked in
       record {
         noted = notes-append start xs ys ∙ ap (λ (ns : List Note). ns ++ notes (patience_left start xs) ys) p.noted ∙ ap (λ (r : Option ℕ). s ++ notes r ys) p.patience ∙ ap (λ (ns : List Note). s ++ ns) noted';
         patience = patience_left-append start xs ys ∙ ap (λ r. patience_left r ys) p.patience ∙ patience';
         strategy = q.strategy ∙ p.strategy;
-        asked = ap (λ (us : List Asked). us ++ v) p.asked ∙ ap (λ (us : List Asked). requests_for b.strategy viewer levels s ++ us) asked' ∙ sym (requests_for-append b.strategy viewer levels s t);
+        asked = ap (λ (us : List Asked). us ++ v) p.asked ∙ ap (λ (us : List Asked). requests_for b.strategy who.viewer who.levels s ++ us) asked' ∙ sym (requests_for-append b.strategy who.viewer who.levels s t);
         allowed = allows-append b.strategy b.left b'.left b''.left xs ys p.allowed (subst (λ st. Allows st b'.left b''.left ys) p.strategy q.allowed);
       }
 
   -- an event that changes no patience
-  one_event : (b : Allowance) (ev : Event) (seen : List Note) → ((p : Option ℕ) → noted p ev ≡ seen) → ((p : Option ℕ) → patience_after p ev ≡ p) → requests_for b.strategy viewer levels seen ≡ []
-      → Allows b.strategy b.left b.left (ev ∷ []) → Step viewer levels b b (ev ∷ []) [] seen
+  one_event : (b : Allowance) (ev : Event) (seen : List Note) → ((p : Option ℕ) → notes_of_event p ev ≡ seen) → ((p : Option ℕ) → patience_after p ev ≡ p) → requests_for b.strategy who.viewer who.levels seen ≡ []
+      → Allows b.strategy b.left b.left (ev ∷ []) → Step who b b (ev ∷ []) [] seen
   one_event b ev seen notes_it keeps none allowed = record {
-    noted = append-nil (noted (patience_by b.strategy b.left) ev) ∙ notes_it (patience_by b.strategy b.left);
+    noted = append-nil (notes_of_event (patience_by b.strategy b.left) ev) ∙ notes_it (patience_by b.strategy b.left);
     patience = keeps (patience_by b.strategy b.left);
     strategy = refl;
     asked = sym none;
     allowed = allowed;
   }
 
-  unpin_step : (b : Allowance) (k c : ℕ) → Step viewer levels b b (event.Unpin k c ∷ []) [] []
+  unpin_step : (b : Allowance) (k c : ℕ) → Step who b b (event.Unpin k c ∷ []) [] []
   unpin_step b k c = one_event b (event.Unpin k c) [] nothing keeps refl (quiet b.strategy b.left)
     where
-      nothing : (p : Option ℕ) → noted p (event.Unpin k c) ≡ []
+      nothing : (p : Option ℕ) → notes_of_event p (event.Unpin k c) ≡ []
       nothing None = refl
       nothing (Some zero) = refl
       nothing (Some (suc n)) = refl
@@ -200,14 +201,14 @@ module _ (viewer : ℕ) (levels : List Level) where
       quiet Volatile l = refl
       quiet DontLoad l = refl
 
-  pub give_back_step : (b : Allowance) (k : ℕ) (held : Option ℕ) → Step viewer levels b b (given_back k held) [] []
+  pub give_back_step : (b : Allowance) (k : ℕ) (held : Option ℕ) → Step who b b (given_back k held) [] []
   give_back_step b k None = idle_step b
   give_back_step b k (Some c) = unpin_step b k c
 
-  pub read_step : (b : Allowance) (k c i x : ℕ) → Step viewer levels b b (event.Read k c i x ∷ []) [] (note.Read c i x ∷ [])
+  pub read_step : (b : Allowance) (k c i x : ℕ) → Step who b b (event.Read k c i x ∷ []) [] (note.Read c i x ∷ [])
   read_step b k c i x = one_event b (event.Read k c i x) (note.Read c i x ∷ []) reads keeps refl (quiet b.strategy b.left)
     where
-      reads : (p : Option ℕ) → noted p (event.Read k c i x) ≡ note.Read c i x ∷ []
+      reads : (p : Option ℕ) → notes_of_event p (event.Read k c i x) ≡ note.Read c i x ∷ []
       reads None = refl
       reads (Some zero) = refl
       reads (Some (suc n)) = refl
@@ -224,7 +225,7 @@ module _ (viewer : ℕ) (levels : List Level) where
 
   -- a look that doesn't load, and gives a handle
   plain_pin : (s : Strategy) (l : ℕ) (b' : Allowance) (k c : ℕ) (events : List Event) (calls : List Asked) → patience_by s l ≡ Some 0 → Allows s l l (event.Pin k c ∷ [])
-      → events ≡ event.Pin k c ∷ [] → b' ≡ allowance s l → calls ≡ [] → Step viewer levels (allowance s l) b' events calls []
+      → events ≡ event.Pin k c ∷ [] → b' ≡ allowance s l → calls ≡ [] → Step who (allowance s l) b' events calls []
   plain_pin s l b' k c events calls w allowed es same none = record {
     noted = subst (λ (x : List Event). notes (patience_by s l) x ≡ []) (sym es) (subst (λ (p : Option ℕ). notes p (event.Pin k c ∷ []) ≡ []) (sym w) refl);
     patience = subst (λ (x : List Event). patience_left (patience_by s l) x ≡ patience_by s b'.left) (sym es) (subst (λ (x : Allowance). patience_left (patience_by s l) (event.Pin k c ∷ []) ≡ patience_by s x.left) (sym same) (subst (λ (p : Option ℕ). patience_left p (event.Pin k c ∷ []) ≡ p) (sym w) refl));
@@ -234,11 +235,11 @@ module _ (viewer : ℕ) (levels : List Level) where
   }
 
   -- a look that loads
-  loading : (s : Strategy) (l : ℕ) (b' : Allowance) (k c : ℕ) (loaded : Bool) (events : List Event) (calls : List Asked) → Waits (patience_by s l) → after_load (patience_by s l) loaded ≡ patience_by s (left_after s l loaded)
+  loading : (s : Strategy) (l : ℕ) (b' : Allowance) (c : ℕ) (loaded : Bool) (events : List Event) (calls : List Asked) → Waits (patience_by s l) → after_load (patience_by s l) loaded ≡ patience_by s (left_after s l loaded)
       → (loads_in events ≡ cond loaded 1 0 → Allows s l (left_after s l loaded) events)
-      → IsGranted k c loaded events × (b' ≡ spent (allowance s l) loaded) → calls ≡ [] → Step viewer levels (allowance s l) b' events calls []
-  loading s l b' k c loaded events calls w after allowed g none =
-      let u = granted-unnoted (patience_by s l) k c loaded events w g.0 in
+      → IsGranted who.alone who.pass c loaded events × (b' ≡ spent (allowance s l) loaded) → calls ≡ [] → Step who (allowance s l) b' events calls []
+  loading s l b' c loaded events calls w after allowed g none =
+      let u = granted-unnoted (patience_by s l) who.alone who.pass c loaded events w g.0 in
       record {
         noted = u.none;
         patience = u.left ∙ after ∙ sym (ap (λ (x : Allowance). patience_by s x.left) g.1);
@@ -247,38 +248,38 @@ module _ (viewer : ℕ) (levels : List Level) where
         allowed = subst (λ (x : Allowance). Allows s l x.left events) (sym g.1) (allowed u.count);
       }
 
-  abbrev Pinned : Strategy → ℕ → Bool → ℕ → ℕ → Bool → Allowance → List Event → Type 0
-  Pinned s l t k c loaded b' events = MatchBool t (IsGranted k c loaded events × (b' ≡ spent (allowance s l) loaded)) ((loaded ≡ false) × (events ≡ event.Pin k c ∷ []) × (b' ≡ allowance s l))
+  abbrev Pinned : Strategy → ℕ → Bool → ℕ → Bool → Allowance → List Event → Type 0
+  Pinned s l t c loaded b' events = MatchBool t (IsGranted who.alone who.pass c loaded events × (b' ≡ spent (allowance s l) loaded)) ((loaded ≡ false) × (events ≡ event.Pin who.pass c ∷ []) × (b' ≡ allowance s l))
 
-  ready_by : (s : Strategy) (l k c : ℕ) (loaded : Bool) (b' : Allowance) (events : List Event) (calls : List Asked) → Pinned s l (loads_by s l) k c loaded b' events → calls ≡ [] → Step viewer levels (allowance s l) b' events calls []
-  ready_by Blocking l k c loaded b' events calls g none = loading Blocking l b' k c loaded events calls tt refl (λ _. tt) g none
-  ready_by (Budgeted n) zero k c loaded b' events calls g none = plain_pin (Budgeted n) zero b' k c events calls refl refl g.1 g.2 none
-  ready_by (Budgeted n) (suc l) k c loaded b' events calls g none =
-      loading (Budgeted n) (suc l) b' k c loaded events calls tt (after_load-is n l loaded) (λ u. omega (arith, u, load_paid n l loaded)) (subst (λ t. Pinned (Budgeted n) (suc l) t k c loaded b' events) (some_left l) g) none
-  ready_by Volatile l k c loaded b' events calls g none = plain_pin Volatile l b' k c events calls refl refl g.1 g.2 none
-  ready_by DontLoad l k c loaded b' events calls g none = plain_pin DontLoad l b' k c events calls refl refl g.1 g.2 none
+  ready_by : (s : Strategy) (l c : ℕ) (loaded : Bool) (b' : Allowance) (events : List Event) (calls : List Asked) → Pinned s l (loads_by s l) c loaded b' events → calls ≡ [] → Step who (allowance s l) b' events calls []
+  ready_by Blocking l c loaded b' events calls g none = loading Blocking l b' c loaded events calls tt refl (λ _. tt) g none
+  ready_by (Budgeted n) zero c loaded b' events calls g none = plain_pin (Budgeted n) zero b' who.pass c events calls refl refl g.1 g.2 none
+  ready_by (Budgeted n) (suc l) c loaded b' events calls g none =
+      loading (Budgeted n) (suc l) b' c loaded events calls tt (after_load-is n l loaded) (λ u. omega (arith, u, load_paid n l loaded)) (subst (λ t. Pinned (Budgeted n) (suc l) t c loaded b' events) (some_left l) g) none
+  ready_by Volatile l c loaded b' events calls g none = plain_pin Volatile l b' who.pass c events calls refl refl g.1 g.2 none
+  ready_by DontLoad l c loaded b' events calls g none = plain_pin DontLoad l b' who.pass c events calls refl refl g.1 g.2 none
 
-  pub ready_step : (k c : ℕ) (b : Allowance) (loaded : Bool) (b' : Allowance) (events : List Event) (calls : List Asked) → IsReadyLook k c b loaded b' events calls → Step viewer levels b b' events calls []
-  ready_step k c b loaded b' events calls look = ready_by b.strategy b.left k c loaded b' events calls look.pinned look.nothing_asked
+  pub ready_step : (c : ℕ) (b : Allowance) (loaded : Bool) (b' : Allowance) (events : List Event) (calls : List Asked) → IsReadyLook who c b loaded b' events calls → Step who b b' events calls []
+  ready_step c b loaded b' events calls look = ready_by b.strategy b.left c loaded b' events calls look.pinned look.nothing_asked
 
   -- a look at a cell that isn't ready
   plain_miss : (s : Strategy) (l : ℕ) (b' : Allowance) (k c : ℕ) (events : List Event) (calls : List Asked) → patience_by s l ≡ Some 0 → Allows s l l (event.Miss k c ∷ [])
-      → events ≡ event.Miss k c ∷ [] → calls ≡ requests s viewer levels c → b' ≡ allowance s l → Step viewer levels (allowance s l) b' events calls (note.NotReady c ∷ [])
+      → events ≡ event.Miss k c ∷ [] → calls ≡ requests s who.viewer who.levels c → b' ≡ allowance s l → Step who (allowance s l) b' events calls (note.NotReady c ∷ [])
   plain_miss s l b' k c events calls w allowed es us same = record {
     noted = subst (λ (x : List Event). notes (patience_by s l) x ≡ note.NotReady c ∷ []) (sym es) (subst (λ (p : Option ℕ). notes p (event.Miss k c ∷ []) ≡ note.NotReady c ∷ []) (sym w) refl);
     patience = subst (λ (x : List Event). patience_left (patience_by s l) x ≡ patience_by s b'.left) (sym es) (subst (λ (x : Allowance). patience_left (patience_by s l) (event.Miss k c ∷ []) ≡ patience_by s x.left) (sym same) (subst (λ (p : Option ℕ). patience_left p (event.Miss k c ∷ []) ≡ p) (sym w) refl));
     strategy = ap (λ (x : Allowance). x.strategy) same;
-    asked = us ∙ sym (append-nil (requests s viewer levels c));
+    asked = us ∙ sym (append-nil (requests s who.viewer who.levels c));
     allowed = subst (λ (x : List Event). Allows s l b'.left x) (sym es) (subst (λ (x : Allowance). Allows s l x.left (event.Miss k c ∷ [])) (sym same) allowed);
   }
 
   missed_by : (s : Strategy) (l k c : ℕ) (b' : Allowance) (events : List Event) (calls : List Asked) → loads_by s l ≡ false
-      → events ≡ event.Miss k c ∷ [] → calls ≡ requests s viewer levels c → b' ≡ allowance s l → Step viewer levels (allowance s l) b' events calls (note.NotReady c ∷ [])
+      → events ≡ event.Miss k c ∷ [] → calls ≡ requests s who.viewer who.levels c → b' ≡ allowance s l → Step who (allowance s l) b' events calls (note.NotReady c ∷ [])
   missed_by Blocking l k c b' events calls stopped es us same = cc
   missed_by (Budgeted n) zero k c b' events calls stopped es us same = plain_miss (Budgeted n) zero b' k c events calls refl refl es us same
   missed_by (Budgeted n) (suc l) k c b' events calls stopped es us same = let yes : nat_lt 0 (suc l) ≡ true = some_left l in cc
   missed_by Volatile l k c b' events calls stopped es us same = plain_miss Volatile l b' k c events calls refl refl es us same
   missed_by DontLoad l k c b' events calls stopped es us same = plain_miss DontLoad l b' k c events calls refl refl es us same
 
-  pub missed_step : (k c : ℕ) (b b' : Allowance) (events : List Event) (calls : List Asked) → IsNotReadyLook k viewer levels c b b' events calls → Step viewer levels b b' events calls (note.NotReady c ∷ [])
-  missed_step k c b b' events calls look = missed_by b.strategy b.left k c b' events calls look.loads_no_more look.missed look.asked look.same_budget
+  pub missed_step : (c : ℕ) (b b' : Allowance) (events : List Event) (calls : List Asked) → IsNotReadyLook who c b b' events calls → Step who b b' events calls (note.NotReady c ∷ [])
+  missed_step c b b' events calls look = missed_by b.strategy b.left who.pass c b' events calls look.loads_no_more look.missed look.asked look.same_budget

@@ -9,7 +9,7 @@ use Rattle.scale_pick.specs.declared.note.Note.{Note}
 use Rattle.scale_pick.specs.Picture.{Pixels}
 use Rattle.scale_pick.specs.Painting.{IsMissed, Shows, AreMissed, IsPainted, IsPixelPainted, IsRowPainted, AreRowsPainted}
 use Rattle.scale_pick.specs.Wanted.{wanted_level}
-use Rattle.hier_paint.specs.Visits.{Visit, reading, skipping}
+use Rattle.hier_paint.specs.Visits.{Visit, reading_visit, skipping}
 use Rattle.hier_paint.specs.Ways.{IsLevelWay, AreSkipped, IsPixelWay, IsRowWay, AreRowWays}
 use Rattle.hier_paint.proofs.Telling.{Covers}
 
@@ -28,7 +28,7 @@ module _ (levels : List Level) (view : View) (notes : List Note) where
 
   level_shown : (x y level value : ℕ) (visits : List Visit) → IsLevelWay levels view x y level (Some value) visits → Covers visits notes → Shows levels view notes x y level value
   level_shown x y level value visits (inl h) c = inl (h.0, h.1)
-  level_shown x y level value visits (inr h) c = inr (h.0, h.1, h.2, h.3, covers_one visits (reading level h.0 h.1 h.2) notes h.5 c, h.4)
+  level_shown x y level value visits (inr h) c = inr (h.0, h.1, h.2, h.3, covers_one visits (reading_visit level h.0 h.1 h.2) notes h.5 c, h.4)
 
   level_exists : (x y level value : ℕ) (visits : List Visit) → IsLevelWay levels view x y level (Some value) visits → level < length levels
   level_exists x y level value visits (inl h) = slice_get_within levels level h.0.shape h.0.exists

@@ -22,6 +22,7 @@ use Rattle.hier_paint.specs.Works.{Works}
 use Rattle.hier_paint.proofs.Pictures.{with_pixel, row_more}
 use Rattle.hier_paint.proofs.Walking.{none_skipped, level_way, shown_way}
 use Rattle.hier_paint.proofs.Working.{work_map, held_found, read_work}
+use Rattle.volatile_cell.specs.Front.{Front, IsFront}
 
 -- the cell in a hand is held
 pub in_hand : {H : Type 0} (hand : Hand H) (h : InHand H) → hand.held ≡ Some h → is_held (sight hand) h.cell ≡ true
@@ -50,17 +51,12 @@ module _ (levels : List Level) (view : View) where
   pub outside_pixel : (x y wanted : ℕ) → wanted ≡ wanted_level levels view → IsOutside levels view.affine wanted x y → IsPixelWay levels view x y 0 wanted []
   outside_pixel x y wanted is outside = shown_way levels levels view x y wanted wanted 0 [] [] is refl (omega arith) (none_skipped levels view x y wanted) (inl (outside, refl, refl))
 
-module _ {E : Type 0} (leads : E → List Event → List Asked → E → Type 0) (levels : E → List Level) (number viewer : E → ℕ)
-    (stays : (e : E) → leads e [] [] e)
-    (leads_on : (a b c : E) (p q : List Event) (u v : List Asked) → leads a p u b → leads b q v c → leads a (p ++ q) (u ++ v) c)
-    (same_levels : (a b : E) (p : List Event) (u : List Asked) → leads a p u b → levels a ≡ levels b)
-    (same_number : (a b : E) (p : List Event) (u : List Asked) → leads a p u b → number a ≡ number b)
-    (same_viewer : (a b : E) (p : List Event) (u : List Asked) → leads a p u b → viewer a ≡ viewer b) where
+module _ {E : Type 0} (front : Front E) (laws : IsFront front) where
   -- a pixel that shows a voxel of the cell that is held, at the wanted level
   pub held_pixel : (e e' : E) (s : Sight) (ls : List Level) (view : View) (x y wanted cell at n low high value : ℕ) → is_held s cell ≡ true → wanted ≡ wanted_level ls view → low ≡ view.low → high ≡ view.high
-      → HasVoxel ls view.affine wanted x y cell at → leads e (event.Read (number e) cell at n ∷ []) [] e' → value ≡ shown n low high → Works leads levels number viewer e s e' s (IsPixelWay ls view x y value wanted)
+      → HasVoxel ls view.affine wanted x y cell at → front.leads e (event.Read (front.looker e).pass cell at n ∷ []) [] e' → value ≡ shown n low high → Works front e s e' s (IsPixelWay ls view x y value wanted)
   held_pixel e e' s ls view x y wanted cell at n low high value held is is_low is_high voxel led shows =
-      let found = held_found leads levels number viewer stays leads_on same_levels same_number same_viewer e s s wanted cell refl held in
-      let read = read_work leads levels number viewer stays leads_on same_levels same_number same_viewer e e e' s s wanted cell at n low high value found led shows in
-      work_map leads levels number viewer stays leads_on same_levels same_number same_viewer e e' s s _ _ read
+      let found = held_found front laws e s s wanted cell refl held in
+      let read = read_work front laws e e e' s s wanted cell at n low high value found led shows in
+      work_map front laws e e' s s _ _ read
       (λ v here. shown_way ls ls view x y wanted wanted value [] v is refl (omega arith) (none_skipped ls view x y wanted) (level_way ls view x y wanted cell at low high is_low is_high voxel (Some value) v here))

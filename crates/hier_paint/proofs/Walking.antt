@@ -8,7 +8,7 @@ use Rattle.scale_pick.specs.Pixel.{HasVoxel}
 use Rattle.scale_pick.specs.Wanted.{wanted_level}
 use Rattle.hier_paint.specs.Visits.{Visit}
 use Rattle.hier_paint.specs.Ways.{IsLevelWay, AreSkipped, IsPixelWay, IsPixelCut}
-use Rattle.hier_paint.specs.Finding.{IsAt, IsPlaceWay, IsLevelCut}
+use Rattle.hier_paint.specs.Finding.{IsAtVoxel, IsPlaceWay, IsLevelCut}
 
 -- what is shown of a voxel is what is shown of the pixel there
 pub level_way : (levels : List Level) (view : View) (x y level cell at low high : ℕ) → low ≡ view.low → high ≡ view.high → HasVoxel levels view.affine level x y cell at
@@ -17,7 +17,7 @@ level_way levels view x y level cell at low high is_low is_high voxel None v h =
 level_way levels view x y level cell at low high is_low is_high voxel (Some value) v h =
     inr (cell, at, h.0, voxel, h.1 ∙ ap (λ n. shown h.0 n high) is_low ∙ ap (λ n. shown h.0 view.low n) is_high, h.2)
 
-pub level_cut : (levels : List Level) (view : View) (x y level cell at : ℕ) → HasVoxel levels view.affine level x y cell at → (v : List Visit) (l c : ℕ) → IsAt level cell v l c → IsLevelCut levels view x y level v l c
+pub level_cut : (levels : List Level) (view : View) (x y level cell at : ℕ) → HasVoxel levels view.affine level x y cell at → (v : List Visit) (l c : ℕ) → IsAtVoxel level cell v l c → IsLevelCut levels view x y level v l c
 level_cut levels view x y level cell at voxel v l c h = (h.0, h.1, at, subst (λ n. HasVoxel levels view.affine level x y n at) (sym h.2) voxel)
 
 pub none_skipped : (levels : List Level) (view : View) (x y from : ℕ) → AreSkipped levels view x y from (from - from) []

@@ -10,29 +10,30 @@ use Rattle.volatile_cell.specs.Asked.{Asked}
 use Rattle.volatile_cell.specs.Budget.{Allowance}
 use Rattle.volatile_cell.specs.Looks.{IsReadyLook, IsNotReadyLook, IsRefusedLook}
 use Rattle.hier_paint.specs.Sight.{Sight, holding, missing}
-use Rattle.hier_paint.specs.Visits.{Visit, reading, skipping}
+use Rattle.hier_paint.specs.Visits.{Visit, reading_visit, skipping}
+use Rattle.volatile_cell.specs.Front.{Front}
 
 -- nothing was visited, and this cell is due at this level
-abbrev pub IsAt : ℕ → ℕ → List Visit → ℕ → ℕ → Type 0
-IsAt level cell visits level' cell' = (visits ≡ []) × (level' ≡ level) × (cell' ≡ cell)
+abbrev pub IsAtVoxel : ℕ → ℕ → List Visit → ℕ → ℕ → Type 0
+IsAtVoxel level cell visits level' cell' = (visits ≡ []) × (level' ≡ level) × (cell' ≡ cell)
 
-module _ {E : Type 0} (leads : E → List Event → List Asked → E → Type 0) where
+module _ {E : Type 0} (front : Front E) where
   -- a look that was ready, or wasn't
-  abbrev pub IsFoundLook : (E → List Level) → (E → ℕ) → (E → ℕ) → E → Sight → ℕ → ℕ → Bool → E → Sight → Type 0
-  IsFoundLook levels number viewer e s level cell true e' s' =
-      (piece : List Event) × (calls : List Asked) × (loaded : Bool) × (left : Allowance) × leads e piece calls e' × IsReadyLook (number e) cell s.budget loaded left piece calls × (s' ≡ holding s cell left)
-  IsFoundLook levels number viewer e s level cell false e' s' =
-      (piece : List Event) × (calls : List Asked) × (left : Allowance) × leads e piece calls e' × IsNotReadyLook (number e) (viewer e) (levels e) cell s.budget left piece calls × (s' ≡ missing s level cell left)
+  abbrev pub IsFoundLook : E → Sight → ℕ → ℕ → Bool → E → Sight → Type 0
+  IsFoundLook e s level cell true e' s' =
+      (piece : List Event) × (calls : List Asked) × (loaded : Bool) × (left : Allowance) × front.leads e piece calls e' × IsReadyLook (front.looker e) cell s.budget loaded left piece calls × (s' ≡ holding s cell left)
+  IsFoundLook e s level cell false e' s' =
+      (piece : List Event) × (calls : List Asked) × (left : Allowance) × front.leads e piece calls e' × IsNotReadyLook (front.looker e) cell s.budget left piece calls × (s' ≡ missing s level cell left)
 
   -- a look that was refused
-  abbrev pub IsFailedLook : (E → ℕ) → (E → E → ℕ → AcquireErr → Type 0) → E → Sight → ℕ → E → AcquireErr → Type 0
-  IsFailedLook number caused e s cell e' err =
-      (piece : List Event) × (calls : List Asked) × (left : Allowance) × leads e piece calls e' × IsRefusedLook (number e) cell s.budget err left piece calls × caused e e' cell err
+  abbrev pub IsFailedLook : E → Sight → ℕ → E → AcquireErr → Type 0
+  IsFailedLook e s cell e' err =
+      (piece : List Event) × (calls : List Asked) × (left : Allowance) × front.leads e piece calls e' × IsRefusedLook (front.looker e) cell s.budget err left piece calls × front.caused e e' cell err
 
 -- what is shown of a voxel: what was read of it; or nothing, where its cell wasn't ready
 abbrev pub IsPlaceWay : ℕ → ℕ → ℕ → ℕ → ℕ → Option ℕ → List Visit → Type 0
 IsPlaceWay low high level cell at None visits = visits ≡ skipping level cell ∷ []
-IsPlaceWay low high level cell at (Some value) visits = (number : ℕ) × (value ≡ shown number low high) × (visits ≡ reading level cell at number ∷ [])
+IsPlaceWay low high level cell at (Some value) visits = (number : ℕ) × (value ≡ shown number low high) × (visits ≡ reading_visit level cell at number ∷ [])
 
 -- a pixel's cell at a level is due
 abbrev pub IsLevelCut : List Level → View → ℕ → ℕ → ℕ → List Visit → ℕ → ℕ → Type 0

@@ -10,10 +10,11 @@ use Rattle.scale_pick.specs.Painting.{IsPainting}
 use Rattle.volatile_cell.specs.Asked.{Asked}
 use Rattle.volatile_cell.specs.Budget.{loads_by}
 use Rattle.volatile_cell.specs.StrategyRule.{IsAllowed, requests_for, clearing}
-use Rattle.volatile_cell.specs.Pieces.{IsRefused}
-use Rattle.hier_paint.specs.Sight.{Sight, opening, given_back}
+use Rattle.call_events.specs.Pieces.{IsRefused}
+use Rattle.hier_paint.specs.Sight.{Sight, opening_sight, given_back}
 use Rattle.hier_paint.specs.Visits.{Visit, IsLookedFor, AreVisits}
 use Rattle.hier_paint.specs.Ways.{AreRowWays, IsCut}
+use Rattle.volatile_cell.specs.Front.{Front, Looker}
 
 -- What a frame's events are by its strategy, and what it asks the queue: to clear the viewer's requests, once and first, and then for
 -- each cell found not ready, in order.
@@ -24,50 +25,50 @@ pub record KeepsRule (view : View) (viewer : ℕ) (levels : List Level) (events 
 
 -- The looks of a frame: its events and calls are those of its visits, pixel by pixel and level by level; at the end it gives back
 -- what it holds.
-pub record IsVisited (k viewer : ℕ) (levels : List Level) (view : View) (picture : Pixels) (events : List Event) : Type 0 where
+pub record IsVisited (who : Looker) (view : View) (picture : Pixels) (events : List Event) : Type 0 where
   pub visits : List Visit
-  pub way : AreRowWays levels view picture picture.height visits
+  pub way : AreRowWays who.levels view picture picture.height visits
   pub last : Sight
   pub looks : List Event
   pub calls : List Asked
-  pub are : AreVisits k viewer levels (opening view.strategy) visits last looks calls
-  pub events_are : events ≡ looks ++ given_back k last.held
+  pub are : AreVisits who (opening_sight view.strategy) visits last looks calls
+  pub events_are : events ≡ looks ++ given_back who.pass last.held
 
 -- The looks of a frame up to one that is refused, which loads the cell that is due by then; before it the frame gives back what it holds.
-pub record IsVisitedTo (k viewer : ℕ) (levels : List Level) (view : View) (picture : Pixels) (cell : ℕ) (events : List Event) : Type 0 where
+pub record IsVisitedTo (who : Looker) (view : View) (picture : Pixels) (cell : ℕ) (events : List Event) : Type 0 where
   pub width : picture.width ≡ view.width
   pub height : picture.height ≡ view.height
   pub visits : List Visit
   pub level : ℕ
-  pub way : IsCut levels view picture visits level cell
+  pub way : IsCut who.levels view picture visits level cell
   pub last : Sight
   pub looks : List Event
   pub calls : List Asked
-  pub are : AreVisits k viewer levels (opening view.strategy) visits last looks calls
+  pub are : AreVisits who (opening_sight view.strategy) visits last looks calls
   pub due : IsLookedFor last level cell
   pub loads : loads_by last.budget.strategy last.budget.left ≡ true
-  pub events_are : events ≡ looks ++ given_back k last.held
+  pub events_are : events ≡ looks ++ given_back who.pass last.held
 
-module _ {E : Type 0} (leads : E → List Event → List Asked → E → Type 0) (levels : E → List Level) (number viewer : E → ℕ) where
+module _ {E : Type 0} (front : Front E) where
   -- A frame that was painted: its picture is a painting by its events.
   pub record IsFrame (e e' : E) (view : View) (picture : Pixels) : Type 0 where
     pub events : List Event
     pub calls : List Asked
-    pub led : leads e events calls e'
-    pub painting : IsPainting (levels e) view (notes_of view.strategy events) picture
-    pub rule : KeepsRule view (viewer e) (levels e) events calls
-    pub visited : IsVisited (number e) (viewer e) (levels e) view picture events
+    pub led : front.leads e events calls e'
+    pub painting : IsPainting (front.looker e).levels view (notes_of view.strategy events) picture
+    pub rule : KeepsRule view (front.looker e).viewer (front.looker e).levels events calls
+    pub visited : IsVisited (front.looker e) view picture events
 
   -- A frame that a refused look cut off: what came before the look, and the look, with its cause.
-  pub record IsCutOff (caused : E → E → ℕ → AcquireErr → Type 0) (e e' : E) (view : View) (picture : Pixels) (err : AcquireErr) : Type 0 where
+  pub record IsCutOff (e e' : E) (view : View) (picture : Pixels) (err : AcquireErr) : Type 0 where
     pub between : E
     pub events : List Event
     pub calls : List Asked
-    pub led : leads e events calls between
-    pub rule : KeepsRule view (viewer e) (levels e) events calls
+    pub led : front.leads e events calls between
+    pub rule : KeepsRule view (front.looker e).viewer (front.looker e).levels events calls
     pub cell : ℕ
-    pub visited : IsVisitedTo (number e) (viewer e) (levels e) view picture cell events
+    pub visited : IsVisitedTo (front.looker e) view picture cell events
     pub piece : List Event
-    pub refused : leads between piece [] e'
-    pub look : IsRefused (number e) cell err piece
-    pub cause : caused between e' cell err
+    pub refused : front.leads between piece [] e'
+    pub look : IsRefused (front.looker e).alone (front.looker e).pass cell err piece
+    pub cause : front.caused between e' cell err

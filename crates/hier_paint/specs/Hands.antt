@@ -5,6 +5,7 @@ use Rattle.hier_paint.specs.declared.hand.Hand.{Hand}
 use Rattle.hier_paint.specs.declared.hand.InHand.{InHand}
 use Rattle.hier_paint.specs.Boxes.{IsBoxOf}
 use Rattle.hier_paint.specs.Sight.{Sight}
+use Rattle.volatile_cell.specs.Front.{Front}
 
 abbrev pub cell_in : {H : Type 0} → Option (InHand H) → Option ℕ
 cell_in None = None
@@ -19,8 +20,8 @@ IsBoxed levels (Some h) = IsBoxOf levels h.cell h.bounds
 abbrev pub sight : {H : Type 0} → Hand H → Sight
 sight hand = record { held = cell_in hand.held; missed = hand.missed; budget = hand.budget }
 
-module _ {E H : Type 0} (levels : E → List Level) (held : E → ℕ) (holds : E → H → Type 0) (cell_of : H → ℕ) where
+module _ {E H : Type 0} (front : Front E) (held : E → ℕ) (holds : E → H → Type 0) (cell_of : H → ℕ) where
   -- the eyes have given out what is in the hand, and nothing else
   abbrev pub Fits : E → Option (InHand H) → Type 0
   Fits e None = held e ≡ 0
-  Fits e (Some h) = (held e ≡ 1) × holds e h.handle × (cell_of h.handle ≡ h.cell) × IsBoxOf (levels e) h.cell h.bounds
+  Fits e (Some h) = (held e ≡ 1) × holds e h.handle × (cell_of h.handle ≡ h.cell) × IsBoxOf (front.looker e).levels h.cell h.bounds

@@ -29,8 +29,8 @@ abbrev pub nothing_missed : List (Option ℕ)
 nothing_missed = None ∷ None ∷ None ∷ None ∷ None ∷ None ∷ None ∷ None ∷ []
 
 -- a frame at its beginning
-abbrev pub opening : Strategy → Sight
-opening strategy = record { held = None; missed = nothing_missed; budget = whole strategy }
+abbrev pub opening_sight : Strategy → Sight
+opening_sight strategy = record { held = None; missed = nothing_missed; budget = whole strategy }
 
 -- after a look that was ready, and after one that wasn't
 abbrev pub holding : Sight → ℕ → Allowance → Sight

@@ -1,7 +1,6 @@
 -- The visits of a frame, and its events at them. A visit needs no look where its cell is the one of the last look, with that
 -- look ready, or is the one of the last look at this level that wasn't ready. Before a look the frame gives back what it holds.
 use Rattle.std.specs.Prelude.{◌≡◌, ◌⊎◌, ℕ, Bool, true, false, List, [], ◌∷◌, ◌++◌}
-use Rattle.cell_grid.specs.declared.level.Level.{Level}
 use Rattle.arr_history.specs.declared.event.Event.{Event}
 use Rattle.arr_history.specs.declared.event.Event.TheVariants as event
 use Rattle.scale_pick.specs.declared.note.Note.{Note}
@@ -10,14 +9,15 @@ use Rattle.volatile_cell.specs.Budget.{Allowance}
 use Rattle.volatile_cell.specs.Asked.{Asked}
 use Rattle.volatile_cell.specs.Looks.{IsReadyLook, IsNotReadyLook}
 use Rattle.hier_paint.specs.Sight.{Sight, is_held, is_missed, holding, missing, given_back}
+use Rattle.volatile_cell.specs.Front.{Looker}
 
 -- a visit: the level, and what was noted there, a voxel that was read or a cell that wasn't ready
 pub record Visit : Type 0 where
   pub level : ℕ
   pub note : Note
 
-abbrev pub reading : ℕ → ℕ → ℕ → ℕ → Visit
-reading level cell at x = record { level = level; note = note.Read cell at x }
+abbrev pub reading_visit : ℕ → ℕ → ℕ → ℕ → Visit
+reading_visit level cell at x = record { level = level; note = note.Read cell at x }
 
 abbrev pub skipping : ℕ → ℕ → Visit
 skipping level cell = record { level = level; note = note.NotReady cell }
@@ -33,23 +33,23 @@ pub record IsIdle (s s' : Sight) (events : List Event) (calls : List Asked) : Ty
   pub none : events ≡ []
   pub nothing_asked : calls ≡ []
 
-module _ (k viewer : ℕ) (levels : List Level) where
+module _ (who : Looker) where
   -- the frame looks for a cell, which is ready, or isn't
   pub record LooksReady (s : Sight) (level cell : ℕ) (s' : Sight) (events : List Event) (calls : List Asked) : Type 0 where
     pub due : IsLookedFor s level cell
     pub piece : List Event
     pub loaded : Bool
     pub left : Allowance
-    pub look : IsReadyLook k cell s.budget loaded left piece calls
-    pub events_are : events ≡ given_back k s.held ++ piece
+    pub look : IsReadyLook who cell s.budget loaded left piece calls
+    pub events_are : events ≡ given_back who.pass s.held ++ piece
     pub held : s' ≡ holding s cell left
 
   pub record LooksMissed (s : Sight) (level cell : ℕ) (s' : Sight) (events : List Event) (calls : List Asked) : Type 0 where
     pub due : IsLookedFor s level cell
     pub piece : List Event
     pub left : Allowance
-    pub look : IsNotReadyLook k viewer levels cell s.budget left piece calls
-    pub events_are : events ≡ given_back k s.held ++ piece
+    pub look : IsNotReadyLook who cell s.budget left piece calls
+    pub events_are : events ≡ given_back who.pass s.held ++ piece
     pub missed : s' ≡ missing s level cell left
 
   -- the frame finds a cell ready, or not
@@ -59,7 +59,7 @@ module _ (k viewer : ℕ) (levels : List Level) where
 
   -- the events of a visit: a cell that is ready is read
   abbrev pub IsVisit : Sight → ℕ → Note → Sight → List Event → List Asked → Type 0
-  IsVisit s level (note.Read cell at x) s' events calls = (found : List Event) × Finds s level cell true s' found calls × (events ≡ found ++ event.Read k cell at x ∷ [])
+  IsVisit s level (note.Read cell at x) s' events calls = (found : List Event) × Finds s level cell true s' found calls × (events ≡ found ++ event.Read who.pass cell at x ∷ [])
   IsVisit s level (note.NotReady cell) s' events calls = Finds s level cell false s' events calls
 
   -- visits one after another

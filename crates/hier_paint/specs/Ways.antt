@@ -6,7 +6,7 @@ use Rattle.scale_pick.specs.Shade.{shown}
 use Rattle.scale_pick.specs.Pixel.{HasVoxel, IsOutside}
 use Rattle.scale_pick.specs.Picture.{Pixels, place}
 use Rattle.scale_pick.specs.Wanted.{wanted_level}
-use Rattle.hier_paint.specs.Visits.{Visit, reading, skipping}
+use Rattle.hier_paint.specs.Visits.{Visit, reading_visit, skipping}
 
 module _ (levels : List Level) (view : View) where
   -- A pixel at a level: outside it nothing is visited, and 0 is shown; inside the nearest voxel is read and shown; or its cell isn't
@@ -14,7 +14,7 @@ module _ (levels : List Level) (view : View) where
   abbrev pub IsLevelWay : ℕ → ℕ → ℕ → Option ℕ → List Visit → Type 0
   IsLevelWay x y level (Some value) visits =
       (IsOutside levels view.affine level x y × (value ≡ 0) × (visits ≡ []))
-      ⊎ ((cell : ℕ) × (at : ℕ) × (number : ℕ) × HasVoxel levels view.affine level x y cell at × (value ≡ shown number view.low view.high) × (visits ≡ reading level cell at number ∷ []))
+      ⊎ ((cell : ℕ) × (at : ℕ) × (number : ℕ) × HasVoxel levels view.affine level x y cell at × (value ≡ shown number view.low view.high) × (visits ≡ reading_visit level cell at number ∷ []))
   IsLevelWay x y level None visits = (cell : ℕ) × (at : ℕ) × HasVoxel levels view.affine level x y cell at × (visits ≡ skipping level cell ∷ [])
 
   -- so many levels from one on weren't ready

@@ -25,7 +25,7 @@ impl CellBox {
         requires { cell < cells_of geometry.now }
         ensures { IsBoxOf geometry.now cell result }
     {
-        let _levels = geometry.levels();
+        let _levels = geometry.levels(); // read for what its contract tells the proof
         let sides = geometry.sides(cell);
         let (level, low) = geometry.pos_of(Place { cell, at: 0 });
         let [x, y, z] = low;

@@ -5,7 +5,7 @@ ghost use Rattle.hier_paint.specs.Sight.{given_back};
 ghost use Rattle.hier_paint.specs.Hands.{Fits, cell_in, sight};
 ghost use Rattle.hier_paint.specs.Visits.{IsLookedFor};
 ghost use Rattle.hier_paint.specs.Works.{Found, Fails};
-ghost use Rattle.hier_paint.specs.Finding.{IsFoundLook, IsFailedLook, IsAt};
+ghost use Rattle.hier_paint.specs.Finding.{IsFoundLook, IsFailedLook, IsAtVoxel};
 
 use crate::cell_box::CellBox;
 use crate::hand::{Hand, InHand, put};
@@ -21,12 +21,12 @@ pub fn find<E: Eyes>(
     cell: u32,
 ) -> Result<bool, AcquireErr>
     requires level { level < 8 }
-    requires cell { cell < cells_of (E.levels eyes.old) }
-    requires fits { Fits E.levels E.held E.holds E.cell_of eyes.old hand.old.held }
-    ensures found { IfOk result (λ ready. Found E.leads E.levels E.number E.viewer eyes.old (sight hand.old) level cell ready eyes.new (sight hand.new)) }
+    requires cell { cell < cells_of (E.front.looker eyes.old).levels }
+    requires fits { Fits E.front E.held E.holds E.cell_of eyes.old hand.old.held }
+    ensures found { IfOk result (λ ready. Found E.front eyes.old (sight hand.old) level cell ready eyes.new (sight hand.new)) }
     ensures held { IfOk result (λ ready. ready ≡ true → cell_in hand.new.held ≡ Some cell) }
-    ensures fits { Fits E.levels E.held E.holds E.cell_of eyes.new hand.new.held }
-    ensures refused { IfErr result (λ err. Fails E.leads E.levels E.number E.viewer E.caused eyes.old (sight hand.old) eyes.new err (IsAt level cell)) }
+    ensures fits { Fits E.front E.held E.holds E.cell_of eyes.new hand.new.held }
+    ensures refused { IfErr result (λ err. Fails E.front eyes.old (sight hand.old) eyes.new err (IsAtVoxel level cell)) }
     ensures emptied { OnErr result (hand.new.held ≡ None) }
 {
     if hand.holds(cell) {
@@ -41,8 +41,8 @@ pub fn find<E: Eyes>(
 
 /// Gives back what is held.
 pub fn let_go<E: Eyes>(eyes: &mut E, hand: &mut Hand<E::Held>)
-    requires { Fits E.levels E.held E.holds E.cell_of eyes.old hand.old.held }
-    ensures led { E.leads eyes.old (given_back (E.number eyes.old) (cell_in hand.old.held)) [] eyes.new }
+    requires { Fits E.front E.held E.holds E.cell_of eyes.old hand.old.held }
+    ensures led { E.front.leads eyes.old (given_back (E.front.looker eyes.old).pass (cell_in hand.old.held)) [] eyes.new }
     ensures free { E.held eyes.new ≡ 0 }
     ensures empty { hand.new.held ≡ None }
     ensures missed { hand.new.missed ≡ hand.old.missed }
@@ -67,12 +67,12 @@ fn look<E: Eyes>(
     cell: u32,
 ) -> Result<bool, AcquireErr>
     requires level { level < 8 }
-    requires cell { cell < cells_of (E.levels eyes.old) }
+    requires cell { cell < cells_of (E.front.looker eyes.old).levels }
     requires free { E.held eyes.old ≡ 0 }
     requires empty { hand.old.held ≡ None }
-    ensures found { IfOk result (λ ready. IsFoundLook E.leads E.levels E.number E.viewer eyes.old (sight hand.old) level cell ready eyes.new (sight hand.new)) }
-    ensures fits { Fits E.levels E.held E.holds E.cell_of eyes.new hand.new.held }
-    ensures refused { IfErr result (λ err. IsFailedLook E.leads E.number E.caused eyes.old (sight hand.old) cell eyes.new err) }
+    ensures found { IfOk result (λ ready. IsFoundLook E.front eyes.old (sight hand.old) level cell ready eyes.new (sight hand.new)) }
+    ensures fits { Fits E.front E.held E.holds E.cell_of eyes.new hand.new.held }
+    ensures refused { IfErr result (λ err. IsFailedLook E.front eyes.old (sight hand.old) cell eyes.new err) }
     ensures emptied { OnErr result (hand.new.held ≡ None) }
 {
     match eyes.look(cell, &mut hand.budget) {
@@ -98,8 +98,8 @@ fn look<E: Eyes>(
 
 /// Opens the hand, and gives back what it holds.
 pub fn open_hand<E: Eyes>(eyes: &mut E, hand: Hand<E::Held>)
-    requires { Fits E.levels E.held E.holds E.cell_of eyes.old hand.held }
-    ensures led { E.leads eyes.old (given_back (E.number eyes.old) (cell_in hand.held)) [] eyes.new }
+    requires { Fits E.front E.held E.holds E.cell_of eyes.old hand.held }
+    ensures led { E.front.leads eyes.old (given_back (E.front.looker eyes.old).pass (cell_in hand.held)) [] eyes.new }
     ensures free { E.held eyes.new ≡ 0 }
     ensures unmoved { hand.held ≡ None → eyes.new ≡ eyes.old }
 {

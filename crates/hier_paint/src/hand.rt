@@ -3,7 +3,7 @@ ghost use Rattle.std.specs.Prelude.{◌≡◌, ◌<◌, true, List, None, Some, 
 ghost use Rattle.cell_grid.specs.declared.level.Level.{Level};
 ghost use Rattle.hier_paint.specs.Nearest.{IsSmall};
 ghost use Rattle.hier_paint.specs.Boxes.{IsPlaced};
-ghost use Rattle.hier_paint.specs.Sight.{is_held, is_missed, opening};
+ghost use Rattle.hier_paint.specs.Sight.{is_held, is_missed, opening_sight};
 ghost use Rattle.hier_paint.specs.Hands.{IsBoxed, sight};
 
 use crate::cell_box::CellBox;
@@ -31,7 +31,7 @@ impl<H> Hand<H> {
     /// An empty hand, with the whole budget of a strategy.
     pub fn new(strategy: Strategy) -> Hand<H>
         ensures empty { result.held ≡ None }
-        ensures sight { sight result ≡ opening strategy }
+        ensures sight { sight result ≡ opening_sight strategy }
     {
         Hand {
             held: None,

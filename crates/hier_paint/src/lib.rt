@@ -12,6 +12,3 @@ mod voxel;
 
 pub use painter::paint;
 pub use scale_pick::{Painted, Picture, Strategy, View};
-
-#[cfg(test)]
-mod tests;

@@ -23,15 +23,15 @@ pub fn paint_rows<E: Eyes>(
     wanted: u8,
     picture: &mut Picture,
 ) -> Result<(), AcquireErr>
-    requires few { length (E.levels eyes.old) ≤ 8 }
-    requires wanted { wanted ≡ wanted_level (E.levels eyes.old) view.now }
-    requires exists { wanted < length (E.levels eyes.old) }
+    requires few { length (E.front.looker eyes.old).levels ≤ 8 }
+    requires wanted { wanted ≡ wanted_level (E.front.looker eyes.old).levels view.now }
+    requires exists { wanted < length (E.front.looker eyes.old).levels }
     requires low { shades.low ≡ view.now.low }
     requires high { shades.high ≡ view.now.high }
-    requires fits { Fits E.levels E.held E.holds E.cell_of eyes.old hand.old.held }
-    ensures painted { OnOk result (Works E.leads E.levels E.number E.viewer eyes.old (sight hand.old) eyes.new (sight hand.new) (AreRowWays (E.levels eyes.old) view.now picture.new picture.new.height)) }
-    ensures fits { Fits E.levels E.held E.holds E.cell_of eyes.new hand.new.held }
-    ensures refused { IfErr result (λ err. Fails E.leads E.levels E.number E.viewer E.caused eyes.old (sight hand.old) eyes.new err (IsCut (E.levels eyes.old) view.now picture.new)) }
+    requires fits { Fits E.front E.held E.holds E.cell_of eyes.old hand.old.held }
+    ensures painted { OnOk result (Works E.front eyes.old (sight hand.old) eyes.new (sight hand.new) (AreRowWays (E.front.looker eyes.old).levels view.now picture.new picture.new.height)) }
+    ensures fits { Fits E.front E.held E.holds E.cell_of eyes.new hand.new.held }
+    ensures refused { IfErr result (λ err. Fails E.front eyes.old (sight hand.old) eyes.new err (IsCut (E.front.looker eyes.old).levels view.now picture.new)) }
     ensures emptied { OnErr result (hand.new.held ≡ None) }
     ensures width { picture.new.width ≡ picture.old.width }
     ensures height { picture.new.height ≡ picture.old.height }
@@ -58,17 +58,17 @@ fn paint_row<E: Eyes>(
     y: u32,
     picture: &mut Picture,
 ) -> Result<(), AcquireErr>
-    requires few { length (E.levels eyes.old) ≤ 8 }
-    requires wanted { wanted ≡ wanted_level (E.levels eyes.old) view.now }
-    requires exists { wanted < length (E.levels eyes.old) }
+    requires few { length (E.front.looker eyes.old).levels ≤ 8 }
+    requires wanted { wanted ≡ wanted_level (E.front.looker eyes.old).levels view.now }
+    requires exists { wanted < length (E.front.looker eyes.old).levels }
     requires row { y < picture.old.height }
     requires low { shades.low ≡ view.now.low }
     requires high { shades.high ≡ view.now.high }
-    requires fits { Fits E.levels E.held E.holds E.cell_of eyes.old hand.old.held }
-    ensures painted { OnOk result (Works E.leads E.levels E.number E.viewer eyes.old (sight hand.old) eyes.new (sight hand.new) (IsRowWay (E.levels eyes.old) view.now picture.new y picture.new.width)) }
+    requires fits { Fits E.front E.held E.holds E.cell_of eyes.old hand.old.held }
+    ensures painted { OnOk result (Works E.front eyes.old (sight hand.old) eyes.new (sight hand.new) (IsRowWay (E.front.looker eyes.old).levels view.now picture.new y picture.new.width)) }
     ensures before { SameBefore picture.old picture.new (place picture.old.width 0 y) }
-    ensures fits { Fits E.levels E.held E.holds E.cell_of eyes.new hand.new.held }
-    ensures refused { IfErr result (λ err. Fails E.leads E.levels E.number E.viewer E.caused eyes.old (sight hand.old) eyes.new err (IsRowCut (E.levels eyes.old) view.now picture.new y)) }
+    ensures fits { Fits E.front E.held E.holds E.cell_of eyes.new hand.new.held }
+    ensures refused { IfErr result (λ err. Fails E.front eyes.old (sight hand.old) eyes.new err (IsRowCut (E.front.looker eyes.old).levels view.now picture.new y)) }
     ensures emptied { OnErr result (hand.new.held ≡ None) }
     ensures width { picture.new.width ≡ picture.old.width }
     ensures height { picture.new.height ≡ picture.old.height }

@@ -28,13 +28,13 @@ pub fn paint<E: Eyes>(
     requires width { picture.old.width ≡ view.now.width }
     requires height { picture.old.height ≡ view.now.height }
     requires range { view.now.low < view.now.high }
-    requires level { IfSome view.now.level (λ level. level < length (E.levels eyes.old)) }
+    requires level { IfSome view.now.level (λ level. level < length (E.front.looker eyes.old).levels) }
     requires free { E.held eyes.old ≡ 0 }
-    ensures frame { OnOk result (IsFrame E.leads E.levels E.number E.viewer eyes.old eyes.new view.now picture.new) }
-    ensures answer { IfOk result (λ painted. painted ≡ painted_of (wanted_level (E.levels eyes.old) view.now) picture.new) }
-    ensures complete { IfOk result (λ painted. IsTrue painted.complete ↔ IsComplete (wanted_level (E.levels eyes.old) view.now) picture.new) }
-    ensures blocking { view.now.strategy ≡ Blocking → OnOk result (IsComplete (wanted_level (E.levels eyes.old) view.now) picture.new) }
-    ensures refused { IfErr result (λ err. IsCutOff E.leads E.levels E.number E.viewer E.caused eyes.old eyes.new view.now picture.new err) }
+    ensures frame { OnOk result (IsFrame E.front eyes.old eyes.new view.now picture.new) }
+    ensures answer { IfOk result (λ painted. painted ≡ painted_of (wanted_level (E.front.looker eyes.old).levels view.now) picture.new) }
+    ensures complete { IfOk result (λ painted. IsTrue painted.complete ↔ IsComplete (wanted_level (E.front.looker eyes.old).levels view.now) picture.new) }
+    ensures blocking { view.now.strategy ≡ Blocking → OnOk result (IsComplete (wanted_level (E.front.looker eyes.old).levels view.now) picture.new) }
+    ensures refused { IfErr result (λ err. IsCutOff E.front eyes.old eyes.new view.now picture.new err) }
     ensures free { E.held eyes.new ≡ 0 }
     ensures width { picture.new.width ≡ picture.old.width }
     ensures height { picture.new.height ≡ picture.old.height }
@@ -58,7 +58,7 @@ fn wanted_level(geometry: &Geometry, view: &View) -> u8
     ensures exists { result < length geometry.now }
     ensures few { length geometry.now ≤ 8 }
 {
-    let _levels = geometry.levels();
+    let _levels = geometry.levels(); // read for what its contract tells the proof
     match view.level {
         Some(level) => level,
         None => best(geometry, &view.affine),

@@ -7,7 +7,7 @@ ghost use Rattle.hier_paint.specs.Nearest.{IsNearest};
 ghost use Rattle.hier_paint.specs.Hands.{Fits, cell_in, sight};
 ghost use Rattle.hier_paint.specs.Ways.{IsLevelWay, IsPixelWay, IsPixelCut};
 ghost use Rattle.hier_paint.specs.Works.{Works, Fails};
-ghost use Rattle.hier_paint.specs.Finding.{IsAt, IsPlaceWay, IsLevelCut};
+ghost use Rattle.hier_paint.specs.Finding.{IsAtVoxel, IsPlaceWay, IsLevelCut};
 
 use crate::find::find;
 use crate::hand::Hand;
@@ -40,18 +40,18 @@ pub fn pixel<E: Eyes>(
     x: u32,
     y: u32,
 ) -> Result<Shot, AcquireErr>
-    requires few { length (E.levels eyes.old) ≤ 8 }
-    requires wanted { wanted ≡ wanted_level (E.levels eyes.old) view.now }
-    requires exists { wanted < length (E.levels eyes.old) }
-    requires nearest { IsNearest (E.levels eyes.old) view.now.affine wanted x y voxel }
+    requires few { length (E.front.looker eyes.old).levels ≤ 8 }
+    requires wanted { wanted ≡ wanted_level (E.front.looker eyes.old).levels view.now }
+    requires exists { wanted < length (E.front.looker eyes.old).levels }
+    requires nearest { IsNearest (E.front.looker eyes.old).levels view.now.affine wanted x y voxel }
     requires column { x < 4096 }
     requires row { y < 4096 }
     requires low { shades.low ≡ view.now.low }
     requires high { shades.high ≡ view.now.high }
-    requires fits { Fits E.levels E.held E.holds E.cell_of eyes.old hand.old.held }
-    ensures painted { IfOk result (λ shot. Works E.leads E.levels E.number E.viewer eyes.old (sight hand.old) eyes.new (sight hand.new) (IsPixelWay (E.levels eyes.old) view.now x y shot.value shot.mask)) }
-    ensures fits { Fits E.levels E.held E.holds E.cell_of eyes.new hand.new.held }
-    ensures refused { IfErr result (λ err. Fails E.leads E.levels E.number E.viewer E.caused eyes.old (sight hand.old) eyes.new err (IsPixelCut (E.levels eyes.old) view.now x y)) }
+    requires fits { Fits E.front E.held E.holds E.cell_of eyes.old hand.old.held }
+    ensures painted { IfOk result (λ shot. Works E.front eyes.old (sight hand.old) eyes.new (sight hand.new) (IsPixelWay (E.front.looker eyes.old).levels view.now x y shot.value shot.mask)) }
+    ensures fits { Fits E.front E.held E.holds E.cell_of eyes.new hand.new.held }
+    ensures refused { IfErr result (λ err. Fails E.front eyes.old (sight hand.old) eyes.new err (IsPixelCut (E.front.looker eyes.old).levels view.now x y)) }
     ensures emptied { OnErr result (hand.new.held ≡ None) }
 {
     let levels = eyes.geometry().levels();
@@ -81,13 +81,13 @@ fn at_level<E: Eyes>(
     y: u32,
 ) -> Result<Option<u8>, AcquireErr>
     requires level { level < 8 }
-    requires nearest { IsNearest (E.levels eyes.old) view.now.affine level x y voxel }
+    requires nearest { IsNearest (E.front.looker eyes.old).levels view.now.affine level x y voxel }
     requires low { shades.low ≡ view.now.low }
     requires high { shades.high ≡ view.now.high }
-    requires fits { Fits E.levels E.held E.holds E.cell_of eyes.old hand.old.held }
-    ensures shown { IfOk result (λ value. Works E.leads E.levels E.number E.viewer eyes.old (sight hand.old) eyes.new (sight hand.new) (IsLevelWay (E.levels eyes.old) view.now x y level value)) }
-    ensures fits { Fits E.levels E.held E.holds E.cell_of eyes.new hand.new.held }
-    ensures refused { IfErr result (λ err. Fails E.leads E.levels E.number E.viewer E.caused eyes.old (sight hand.old) eyes.new err (IsLevelCut (E.levels eyes.old) view.now x y level)) }
+    requires fits { Fits E.front E.held E.holds E.cell_of eyes.old hand.old.held }
+    ensures shown { IfOk result (λ value. Works E.front eyes.old (sight hand.old) eyes.new (sight hand.new) (IsLevelWay (E.front.looker eyes.old).levels view.now x y level value)) }
+    ensures fits { Fits E.front E.held E.holds E.cell_of eyes.new hand.new.held }
+    ensures refused { IfErr result (λ err. Fails E.front eyes.old (sight hand.old) eyes.new err (IsLevelCut (E.front.looker eyes.old).levels view.now x y level)) }
     ensures emptied { OnErr result (hand.new.held ≡ None) }
 {
     match place_of(eyes.geometry(), hand, level, voxel) {
@@ -105,12 +105,12 @@ fn at_place<E: Eyes>(
     place: Place,
 ) -> Result<Option<u8>, AcquireErr>
     requires level { level < 8 }
-    requires cell { place.cell < cells_of (E.levels eyes.old) }
-    requires at { place.at < voxels_of (E.levels eyes.old) place.cell }
-    requires fits { Fits E.levels E.held E.holds E.cell_of eyes.old hand.old.held }
-    ensures shown { IfOk result (λ value. Works E.leads E.levels E.number E.viewer eyes.old (sight hand.old) eyes.new (sight hand.new) (IsPlaceWay shades.low shades.high level place.cell place.at value)) }
-    ensures fits { Fits E.levels E.held E.holds E.cell_of eyes.new hand.new.held }
-    ensures refused { IfErr result (λ err. Fails E.leads E.levels E.number E.viewer E.caused eyes.old (sight hand.old) eyes.new err (IsAt level place.cell)) }
+    requires cell { place.cell < cells_of (E.front.looker eyes.old).levels }
+    requires at { place.at < voxels_of (E.front.looker eyes.old).levels place.cell }
+    requires fits { Fits E.front E.held E.holds E.cell_of eyes.old hand.old.held }
+    ensures shown { IfOk result (λ value. Works E.front eyes.old (sight hand.old) eyes.new (sight hand.new) (IsPlaceWay shades.low shades.high level place.cell place.at value)) }
+    ensures fits { Fits E.front E.held E.holds E.cell_of eyes.new hand.new.held }
+    ensures refused { IfErr result (λ err. Fails E.front eyes.old (sight hand.old) eyes.new err (IsAtVoxel level place.cell)) }
     ensures emptied { OnErr result (hand.new.held ≡ None) }
 {
     match find(eyes, hand, level, place.cell) {
@@ -126,10 +126,10 @@ fn at_place<E: Eyes>(
 /// Reads a voxel of the cell that is held.
 fn read<E: Eyes>(eyes: &mut E, hand: &Hand<E::Held>, place: Place) -> u64
     requires holds { cell_in hand.now.held ≡ Some place.cell }
-    requires inside { place.at < voxels_of (E.levels eyes.old) place.cell }
-    requires fits { Fits E.levels E.held E.holds E.cell_of eyes.old hand.now.held }
-    ensures led { E.leads eyes.old (event.Read (E.number eyes.old) place.cell place.at result ∷ []) [] eyes.new }
-    ensures fits { Fits E.levels E.held E.holds E.cell_of eyes.new hand.now.held }
+    requires inside { place.at < voxels_of (E.front.looker eyes.old).levels place.cell }
+    requires fits { Fits E.front E.held E.holds E.cell_of eyes.old hand.now.held }
+    ensures led { E.front.leads eyes.old (event.Read (E.front.looker eyes.old).pass place.cell place.at result ∷ []) [] eyes.new }
+    ensures fits { Fits E.front E.held E.holds E.cell_of eyes.new hand.now.held }
 {
     match &hand.held {
         Some(held) => eyes.read(&held.handle, place.at),

@@ -33,17 +33,17 @@ pub fn paint_span<E: Eyes>(
     y: u32,
     picture: &mut Picture,
 ) -> Column
-    requires wanted { wanted ≡ wanted_level (E.levels eyes.old) view.now }
+    requires wanted { wanted ≡ wanted_level (E.front.looker eyes.old).levels view.now }
     requires row { y < picture.old.height }
-    requires walk { IsWalk (E.levels eyes.old) view.now.affine wanted from.x y picture.old.width from.walk }
+    requires walk { IsWalk (E.front.looker eyes.old).levels view.now.affine wanted from.x y picture.old.width from.walk }
     requires low { shades.low ≡ view.now.low }
     requires high { shades.high ≡ view.now.high }
-    requires fits { Fits E.levels E.held E.holds E.cell_of eyes.old hand.now.held }
-    ensures painted { Works E.leads E.levels E.number E.viewer eyes.old (sight hand.now) eyes.new (sight hand.now) (IsSpanWay (E.levels eyes.old) view.now y picture.old from.x picture.new result.x) }
+    requires fits { Fits E.front E.held E.holds E.cell_of eyes.old hand.now.held }
+    ensures painted { Works E.front eyes.old (sight hand.now) eyes.new (sight hand.now) (IsSpanWay (E.front.looker eyes.old).levels view.now y picture.old from.x picture.new result.x) }
     ensures before { SameBefore picture.old picture.new (place picture.old.width 0 y) }
-    ensures walk { IsWalk (E.levels eyes.old) view.now.affine wanted result.x y picture.old.width result.walk }
+    ensures walk { IsWalk (E.front.looker eyes.old).levels view.now.affine wanted result.x y picture.old.width result.walk }
     ensures onward { from.x ≤ result.x }
-    ensures fits { Fits E.levels E.held E.holds E.cell_of eyes.new hand.now.held }
+    ensures fits { Fits E.front E.held E.holds E.cell_of eyes.new hand.now.held }
     ensures width { picture.new.width ≡ picture.old.width }
     ensures height { picture.new.height ≡ picture.old.height }
     ensures filled { IsFilled picture.new }

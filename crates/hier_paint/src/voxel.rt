@@ -20,7 +20,7 @@ pub fn row_walk(geometry: &Geometry, affine: &Affine, level: u8, y: u32, width: 
     requires width { width ≤ 4096 }
     ensures { IsWalk geometry.now affine.now level 0 y width result }
 {
-    let _q = affine.q();
+    let _q = affine.q(); // read for what its contract tells the proof
     let shape = geometry.level(level);
     NearestWalk::new(affine, shape.factor, y, width)
 }

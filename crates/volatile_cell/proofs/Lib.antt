@@ -1,4 +1,4 @@
 pub mod Asking
-pub mod Looking
-pub mod Following
+pub mod Fronts
 pub mod Levels
+pub mod Pins

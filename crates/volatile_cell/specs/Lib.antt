@@ -2,8 +2,5 @@ pub mod Budget
 pub mod Asked
 pub mod Requests
 pub mod StrategyRule
-pub mod Pieces
+pub mod Front
 pub mod Looks
-pub mod Steps
-pub mod SoleEyes
-pub mod SoleLaws

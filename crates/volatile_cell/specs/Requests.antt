@@ -1,7 +1,8 @@
 -- What is asked for a cell that isn't ready.
-use Rattle.std.specs.Prelude.{ℕ, ◌-◌, false, cond, List, [], ◌∷◌, length}
+use Rattle.std.specs.Prelude.{◌≡◌, ℕ, ◌-◌, false, cond, List, [], ◌∷◌, length}
 use Rattle.cell_grid.specs.declared.level.Level.{Level}
-use Rattle.cell_grid.specs.Pyramid.{grid_of}
+use Rattle.cell_grid.specs.Pyramid.{grid_of, cells_of}
+use Rattle.fetch_queue.specs.Queue.{Queue}
 use Rattle.scale_pick.specs.declared.strategy.Strategy.{Strategy}
 use Rattle.volatile_cell.specs.declared.hint.Hints.{Hints}
 use Rattle.volatile_cell.specs.declared.queue_call.QueueCall.TheVariants as call
@@ -24,3 +25,8 @@ request_for viewer levels cell = asked (call.Put viewer cell (priority_of levels
 -- what a look asks the queue, by its strategy, where the cell isn't ready
 abbrev pub requests : Strategy → ℕ → List Level → ℕ → List Asked
 requests s viewer levels cell = cond (asks_by s) (request_for viewer levels cell ∷ []) []
+
+-- A queue is for the cells of a pyramid, with one priority for each level.
+pub record IsQueueFor (q : Queue) (levels : List Level) : Type 0 where
+  pub cells : q.cells ≡ cells_of levels
+  pub priorities : length q.lists ≡ length levels

@@ -55,7 +55,7 @@ impl Budget {
     }
 
     /// Whether a look asks the queue for a cell that isn't ready.
-    pub(crate) fn asks(&self) -> bool
+    pub fn asks(&self) -> bool
         ensures { result ≡ asks_by self.now.strategy }
     {
         match self.strategy {

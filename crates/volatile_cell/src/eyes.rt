@@ -1,16 +1,16 @@
 // What a frame is painted by: handles on cells that are there, and requests for those that aren't.
-ghost use Rattle.std.specs.Prelude.{◌≡◌, ◌≢◌, ℕ, ◌+◌, ◌<◌, List, [], ◌∷◌, ◌++◌, Bool, IfOk, IfErr, IfSome, OnErr};
-ghost use Rattle.cell_grid.specs.declared.level.Level.{Level};
+ghost use Rattle.std.specs.Prelude.{◌≡◌, ◌≢◌, ◌⊎◌, ℕ, ◌+◌, ◌<◌, List, [], ◌∷◌, Bool, IfOk, IfErr, IfSome, OnErr};
 ghost use Rattle.cell_grid.specs.Pyramid.{cells_of, voxels_of};
-ghost use Rattle.cell_file.specs.declared.errors.AcquireErr.{AcquireErr};
+ghost use Rattle.arr_history.specs.declared.cell_state.Seen.TheVariants as seen;
 ghost use Rattle.arr_history.specs.declared.event.Event.{Event};
 ghost use Rattle.arr_history.specs.declared.event.Event.TheVariants as event;
 ghost use Rattle.volatile_cell.specs.declared.queue_call.QueueCall.TheVariants as call;
 ghost use Rattle.volatile_cell.specs.declared.queue_reply.QueueReply.TheVariants as reply;
 ghost use Rattle.volatile_cell.specs.Asked.{Asked, asked};
+ghost use Rattle.volatile_cell.specs.Front.{Front, IsFront};
 ghost use Rattle.volatile_cell.specs.StrategyRule.{clearing};
-ghost use Rattle.volatile_cell.specs.Pieces.{IsAcquired};
-ghost use Rattle.volatile_cell.specs.Looks.{IsLook, ForReady, OnNoHandle};
+ghost use Rattle.call_events.specs.Pieces.{IsAcquired};
+ghost use Rattle.volatile_cell.specs.Looks.{IsLook, ForReady, ForNotReady, OnNoHandle};
 
 use crate::budget::Budget;
 use crate::look::Look;
@@ -25,13 +25,9 @@ use fetch_queue::Request;
 pub trait Eyes {
     type Held;
 
-    /// The levels of the pyramid.
-    ghost levels: { Self → List Level };
-
-    /// The number of the pass that looks, and that of the viewer in the queue.
-    ghost number: { Self → ℕ };
-
-    ghost viewer: { Self → ℕ };
+    /// Who looks and at what, how many handles are out on a cell, what leads from one moment to another, and why an acquire
+    /// was refused.
+    ghost front: { Front Self };
 
     /// How many handles are out, and which are of these eyes.
     ghost held: { Self → ℕ };
@@ -43,20 +39,13 @@ pub trait Eyes {
 
     ghost is_loaded: { Self.Held → Bool };
 
-    /// These events of the pass and these calls of the queue lead from one moment to another. Between them there may be
-    /// events and calls of others.
-    ghost leads: { Self → List Event → List Asked → Self → Type 0 };
-
-    /// Why an acquire of a cell between two moments was refused.
-    ghost caused: { Self → Self → ℕ → AcquireErr → Type 0 };
-
     /// The pyramid.
     fn geometry(&self) -> &Geometry
-        ensures { result.now ≡ levels self.now };
+        ensures { result.now ≡ (front.looker self.now).levels };
 
     /// Begins a frame: clears the viewer's requests, and answers how many there were.
     fn begin(&mut self) -> u32
-        ensures led { leads self.old [] (clearing (viewer self.old) result ∷ []) self.new }
+        ensures led { front.leads self.old [] (clearing (front.looker self.old).viewer result ∷ []) self.new }
         ensures held { held self.new ≡ held self.old }
         ensures kept { (h : Self.Held) → holds self.old h → holds self.new h };
 
@@ -64,22 +53,23 @@ pub trait Eyes {
     /// counted; errors come from there alone. Else a cell that isn't live is not ready, and is asked for as the strategy
     /// does.
     fn look(&mut self, cell: u32, budget: &mut Budget) -> Result<Look<Self::Held>, AcquireErr>
-        requires cell { cell < cells_of (levels self.old) }
+        requires cell { cell < cells_of (front.looker self.old).levels }
         requires room { held self.old < 64 }
 
-        ensures looked { (events : List Event) × (calls : List Asked) × leads self.old events calls self.new × IsLook is_loaded (number self.old) (viewer self.old) (levels self.old) cell budget.old result budget.new events calls }
-        ensures caused { IfErr result (λ err. caused self.old self.new cell err) }
+        ensures looked { (events : List Event) × (calls : List Asked) × front.leads self.old events calls self.new × IsLook is_loaded (front.looker self.old) cell budget.old result budget.new events calls }
+        ensures caused { IfErr result (λ err. front.caused self.old self.new cell err) }
         ensures ready { ForReady result (λ h. (cell_of h ≡ cell) × holds self.new h × (held self.new ≡ held self.old + 1)) }
+        ensures not_live { ForNotReady result (λ state. state ≢ seen.Live) }
         ensures no_handle { OnNoHandle result (held self.new ≡ held self.old) }
         ensures kept { (h : Self.Held) → holds self.old h → holds self.new h };
 
     /// Pins a cell, which is loaded where it isn't live.
     fn acquire(&mut self, cell: u32) -> Result<Self::Held, AcquireErr>
-        requires cell { cell < cells_of (levels self.old) }
+        requires cell { cell < cells_of (front.looker self.old).levels }
         requires room { held self.old < 64 }
 
-        ensures acquired { (events : List Event) × leads self.old events [] self.new × IsAcquired is_loaded (number self.old) cell result events }
-        ensures caused { IfErr result (λ err. caused self.old self.new cell err) }
+        ensures acquired { (events : List Event) × front.leads self.old events [] self.new × IsAcquired is_loaded (front.looker self.old).alone (front.looker self.old).pass cell result events }
+        ensures caused { IfErr result (λ err. front.caused self.old self.new cell err) }
         ensures handle { IfOk result (λ h. (cell_of h ≡ cell) × holds self.new h × (held self.new ≡ held self.old + 1)) }
         ensures refused { OnErr result (held self.new ≡ held self.old) }
         ensures kept { (h : Self.Held) → holds self.old h → holds self.new h };
@@ -92,37 +82,28 @@ pub trait Eyes {
     /// The number of a voxel of a held cell.
     fn read(&mut self, handle: &Self::Held, at: u32) -> u64
         requires handle { holds self.old handle.now }
-        requires inside { at < voxels_of (levels self.old) (cell_of handle.now) }
+        requires inside { at < voxels_of (front.looker self.old).levels (cell_of handle.now) }
 
-        ensures led { leads self.old (event.Read (number self.old) (cell_of handle.now) at result ∷ []) [] self.new }
+        ensures led { front.leads self.old (event.Read (front.looker self.old).pass (cell_of handle.now) at result ∷ []) [] self.new }
         ensures held { held self.new ≡ held self.old }
         ensures kept { (h : Self.Held) → holds self.old h → holds self.new h };
 
-    /// Gives a handle back.
+    /// Gives a handle back. Another one on its cell stays.
     fn release(&mut self, handle: Self::Held)
         requires { holds self.old handle }
 
-        ensures led { leads self.old (event.Unpin (number self.old) (cell_of handle) ∷ []) [] self.new }
+        ensures led { front.leads self.old (event.Unpin (front.looker self.old).pass (cell_of handle) ∷ []) [] self.new }
         ensures held { held self.old ≡ held self.new + 1 }
-        ensures kept { (h : Self.Held) → cell_of h ≢ cell_of handle → holds self.old h → holds self.new h };
+        ensures kept { (h : Self.Held) → (cell_of h ≢ cell_of handle) ⊎ (1 < front.pins self.old (cell_of handle)) → holds self.old h → holds self.new h };
 
     /// Takes the next request from the queue.
     fn next(&mut self) -> Option<Request>
-        ensures led { leads self.old [] (asked call.Take (reply.Taken result) ∷ []) self.new }
-        ensures inside { IfSome result (λ request. request.cell < cells_of (levels self.old)) }
+        ensures led { front.leads self.old [] (asked call.Take (reply.Taken result) ∷ []) self.new }
+        ensures inside { IfSome result (λ request. request.cell < cells_of (front.looker self.old).levels) }
         ensures held { held self.new ≡ held self.old }
         ensures kept { (h : Self.Held) → holds self.old h → holds self.new h };
 
-    /// Nothing leads from a moment to itself.
-    ghost stays: { (e : Self) → leads e [] [] e };
-
-    /// What leads on from where something led.
-    ghost leads_on: { (a b c : Self) (p q : List Event) (u v : List Asked) → leads a p u b → leads b q v c → leads a (p ++ q) (u ++ v) c };
-
-    /// The pyramid, the pass and the viewer stay the same.
-    ghost same_levels: { (a b : Self) (p : List Event) (u : List Asked) → leads a p u b → levels a ≡ levels b };
-
-    ghost same_number: { (a b : Self) (p : List Event) (u : List Asked) → leads a p u b → number a ≡ number b };
-
-    ghost same_viewer: { (a b : Self) (p : List Event) (u : List Asked) → leads a p u b → viewer a ≡ viewer b };
+    /// Nothing leads from a moment to itself, what leads on leads from where something led, the looker stays the
+    /// same, and the pins are as the events make them.
+    ghost laws: { IsFront front };
 }

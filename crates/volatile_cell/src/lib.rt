@@ -8,7 +8,6 @@ mod look;
 mod queue_call;
 mod queue_reply;
 mod requests;
-mod sole_eyes;
 
 pub use budget::Budget;
 pub use eyes::Eyes;
@@ -19,7 +18,3 @@ pub use queue_call::QueueCall;
 pub use queue_reply::QueueReply;
 pub use requests::hints;
 pub use scale_pick::Strategy;
-pub use sole_eyes::SoleEyes;
-
-#[cfg(test)]
-mod tests;

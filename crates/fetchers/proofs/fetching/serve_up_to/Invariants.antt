@@ -5,7 +5,7 @@ use Rattle.fetchers.proofs.fetching.serve_up_to.Given as goal
 abbrev pub invariant-loop : goal.invariant-loop
 invariant-loop g l =
     record {
-      serves : Serves g.E.Eyes.leads g.E.Eyes.levels g.E.Eyes.number g.E.Eyes.caused l.fn.eyes l.counter l.fetched l.eyes;
+      serves : Serves g.E.Eyes.front l.fn.eyes l.counter l.fetched l.eyes;
       total : l.fetched.loaded + l.fetched.held + l.fetched.refused ≡ l.counter;
       free : g.E.Eyes.held l.eyes ≡ 0;
     }

@@ -9,11 +9,11 @@ use Rattle.hier_paint.proofs.paint_rows.paint_row.Given as goal
 abbrev pub invariant-loop-column : goal.invariant-loop-column
 invariant-loop-column g l =
     record {
-      works : Works g.E.Eyes.leads g.E.Eyes.levels g.E.Eyes.number g.E.Eyes.viewer l.fn.eyes (sight l.fn.hand) l.eyes (sight l.hand) (IsRowWay (g.E.Eyes.levels l.fn.eyes) l.view l.picture l.y l.column.x);
+      works : Works g.E.Eyes.front l.fn.eyes (sight l.fn.hand) l.eyes (sight l.hand) (IsRowWay (g.E.Eyes.front.looker l.fn.eyes).levels l.view l.picture l.y l.column.x);
       before : SameBefore l.fn.picture l.picture (place l.fn.picture.width 0 l.y);
-      walk : IsWalk (g.E.Eyes.levels l.fn.eyes) l.view.affine l.wanted l.column.x l.y l.width l.column.walk;
-      fits : Fits g.E.Eyes.levels g.E.Eyes.held g.E.Eyes.holds g.E.Eyes.cell_of l.eyes l.hand.held;
-      same : g.E.Eyes.levels l.eyes ≡ g.E.Eyes.levels l.fn.eyes;
+      walk : IsWalk (g.E.Eyes.front.looker l.fn.eyes).levels l.view.affine l.wanted l.column.x l.y l.width l.column.walk;
+      fits : Fits g.E.Eyes.front g.E.Eyes.held g.E.Eyes.holds g.E.Eyes.cell_of l.eyes l.hand.held;
+      same : (g.E.Eyes.front.looker l.eyes).levels ≡ (g.E.Eyes.front.looker l.fn.eyes).levels;
       width : l.picture.width ≡ l.fn.picture.width;
       height : l.picture.height ≡ l.fn.picture.height;
       filled : IsFilled l.picture;

@@ -8,9 +8,9 @@ use Rattle.hier_paint.proofs.paint_rows.paint_rows.Given as goal
 abbrev pub invariant-loop-y : goal.invariant-loop-y
 invariant-loop-y g l =
     record {
-      works : Works g.E.Eyes.leads g.E.Eyes.levels g.E.Eyes.number g.E.Eyes.viewer l.fn.eyes (sight l.fn.hand) l.eyes (sight l.hand) (AreRowWays (g.E.Eyes.levels l.fn.eyes) l.view l.picture l.y);
-      fits : Fits g.E.Eyes.levels g.E.Eyes.held g.E.Eyes.holds g.E.Eyes.cell_of l.eyes l.hand.held;
-      same : g.E.Eyes.levels l.eyes ≡ g.E.Eyes.levels l.fn.eyes;
+      works : Works g.E.Eyes.front l.fn.eyes (sight l.fn.hand) l.eyes (sight l.hand) (AreRowWays (g.E.Eyes.front.looker l.fn.eyes).levels l.view l.picture l.y);
+      fits : Fits g.E.Eyes.front g.E.Eyes.held g.E.Eyes.holds g.E.Eyes.cell_of l.eyes l.hand.held;
+      same : (g.E.Eyes.front.looker l.eyes).levels ≡ (g.E.Eyes.front.looker l.fn.eyes).levels;
       width : l.picture.width ≡ l.fn.picture.width;
       height : l.picture.height ≡ l.fn.picture.height;
       filled : IsFilled l.picture;

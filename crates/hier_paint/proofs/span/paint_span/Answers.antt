@@ -13,19 +13,24 @@ use Rattle.hier_paint.proofs.Pictures.{with_pixel, place_inside, filled_set, sam
 use Rattle.hier_paint.proofs.Spanning.{in_hand, span_none, span_more, held_pixel}
 use Rattle.hier_paint.proofs.Working.{idle_work, work_on}
 use Rattle.hier_paint.proofs.span.paint_span.Goals as goal
+use Rattle.volatile_cell.proofs.Fronts.{same_levels}
 
 pub loop-x-init : goal.loop-x-init
 loop-x-init g c = record {
-  works = idle_work g.E.Eyes.leads g.E.Eyes.levels g.E.Eyes.number g.E.Eyes.viewer g.met.E.Eyes.stays g.met.E.Eyes.leads_on g.met.E.Eyes.same_levels g.met.E.Eyes.same_number g.met.E.Eyes.same_viewer
-      c.args.eyes.now (sight c.args.hand.now) (sight c.args.hand.now) _ refl (span_none (g.E.Eyes.levels c.args.eyes.now) c.args.view.now c.args.picture.now c.args.from.x c.args.y);
+  works = idle_work g.E.Eyes.front g.met.E.Eyes.laws
+      c.args.eyes.now (sight c.args.hand.now) (sight c.args.hand.now) _ refl (span_none (g.E.Eyes.front.looker c.args.eyes.now).levels c.args.view.now c.args.picture.now c.args.from.x c.args.y);
   before = record { values = λ _ _. refl; mask = λ _ _. refl };
-  walk = subst (λ w. IsWalk (g.E.Eyes.levels c.args.eyes.now) c.args.view.now.affine c.args.wanted c.args.from.x c.args.y w c.args.from.walk) (sym c.width-width.ensures.width) c.requires.walk;
+  walk = subst (λ w. IsWalk (g.E.Eyes.front.looker c.args.eyes.now).levels c.args.view.now.affine c.args.wanted c.args.from.x c.args.y w c.args.from.walk) (sym c.width-width.ensures.width) c.requires.walk;
   fits = c.requires.fits;
   same = refl;
   width = refl;
   height = refl;
   filled = c.width-width.ensures.filled;
 }
+
+pub returns-in_default-clause-painted : goal.returns-in_default-clause-painted
+returns-in_default-clause-painted g c =
+    idle_work g.E.Eyes.front g.met.E.Eyes.laws c.args.eyes.now (sight c.args.hand.now) (sight c.args.hand.now) _ refl (span_none (g.E.Eyes.front.looker c.args.eyes.now).levels c.args.view.now c.args.picture.now c.args.from.x c.args.y)
 
 pub offset-requires : goal.offset-requires
 offset-requires g c =
@@ -34,13 +39,13 @@ offset-requires g c =
     let column : c.loop-x.x < 4096 = omega (arith, c.loop-x-test.true, c.width-width.ensures.width, c.width-width.ensures.filled.width) in
     let row : c.args.y < 4096 = omega (arith, c.requires.row, c.width-width.ensures.filled.height) in
     let at = c.voxel.ensures affine was.walk.shape.factor c.loop-x.x c.args.y c.width-width.result was.walk.at in
-    let near = walk_nearest (g.E.Eyes.levels c.args.eyes.now) affine c.args.wanted c.loop-x.x c.args.y c.width-width.result c.loop-x.walk c.voxel.result was.walk column row at in
+    let near = walk_nearest (g.E.Eyes.front.looker c.args.eyes.now).levels affine c.args.wanted c.loop-x.x c.args.y c.width-width.result c.loop-x.walk c.voxel.result was.walk column row at in
     near.small
 
 pub read-number-requires-clause-inside : goal.read-number-requires-clause-inside
 read-number-requires-clause-inside g c =
-    let fits = subst (λ h. Fits g.E.Eyes.levels g.E.Eyes.held g.E.Eyes.holds g.E.Eyes.cell_of c.loop-x.eyes h) c.in-Some.is c.loop-x.invariant.fits in
-    let levels = g.E.Eyes.levels c.loop-x.eyes in
+    let fits = subst (λ h. Fits g.E.Eyes.front g.E.Eyes.held g.E.Eyes.holds g.E.Eyes.cell_of c.loop-x.eyes h) c.in-Some.is c.loop-x.invariant.fits in
+    let levels = (g.E.Eyes.front.looker c.loop-x.eyes).levels in
     let placed = c.in-Some-offset.ensures levels c.in-Some.held.cell fits.3 in
     subst (λ cell. c.in-Some-offset.at < voxels_of levels cell) (sym fits.2) (offset_in_range levels c.args.wanted placed.coordinates c.in-Some.held.cell c.in-Some-offset.at placed.place)
 
@@ -59,7 +64,7 @@ loop-x-preserved g c =
     let x = c.loop-x.x in
     let y = c.args.y in
     let view = c.args.view.now in
-    let levels = g.E.Eyes.levels c.args.eyes.now in
+    let levels = (g.E.Eyes.front.looker c.args.eyes.now).levels in
     let cell = c.in-Some.held.cell in
     let s = sight c.args.hand.now in
     let value = c.shown.result in
@@ -69,17 +74,17 @@ loop-x-preserved g c =
     let low : y < 4096 = omega (arith, row, was.filled.height) in
     let at = c.voxel.ensures view.affine was.walk.shape.factor x y c.width-width.result was.walk.at in
     let near = walk_nearest levels view.affine c.args.wanted x y c.width-width.result c.loop-x.walk c.voxel.result was.walk small low at in
-    let fits = subst (λ h. Fits g.E.Eyes.levels g.E.Eyes.held g.E.Eyes.holds g.E.Eyes.cell_of c.args.eyes.now h) c.in-Some.is c.requires.fits in
-    let here = subst (λ h. Fits g.E.Eyes.levels g.E.Eyes.held g.E.Eyes.holds g.E.Eyes.cell_of c.loop-x.eyes h) c.in-Some.is was.fits in
+    let fits = subst (λ h. Fits g.E.Eyes.front g.E.Eyes.held g.E.Eyes.holds g.E.Eyes.cell_of c.args.eyes.now h) c.in-Some.is c.requires.fits in
+    let here = subst (λ h. Fits g.E.Eyes.front g.E.Eyes.held g.E.Eyes.holds g.E.Eyes.cell_of c.loop-x.eyes h) c.in-Some.is was.fits in
     let voxel = nearest_placed levels view.affine c.args.wanted x y c.voxel.result cell c.in-Some-offset.at near (c.in-Some-offset.ensures levels cell fits.3) in
-    let led = subst (λ n. g.E.Eyes.leads c.loop-x.eyes (event.Read (g.E.Eyes.number c.loop-x.eyes) n c.in-Some-offset.at c.read-number.result ∷ []) [] c.read-number.new.self) here.2 c.read-number.ensures.led in
+    let led = subst (λ n. g.E.Eyes.front.leads c.loop-x.eyes (event.Read (g.E.Eyes.front.looker c.loop-x.eyes).pass n c.in-Some-offset.at c.read-number.result ∷ []) [] c.read-number.new.self) here.2 c.read-number.ensures.led in
     let width : c.width-width.result ≡ p.width = c.width-width.ensures.width ∙ sym was.width in
     let set : c.set_at.new.self ≡ with_pixel p (place p.width x y) value c.args.wanted = c.set_at.ensures.set ∙ ap (λ w. with_pixel p (place w x y) value c.args.wanted) width in
     let end = place c.args.picture.now.width 0 y in
     record {
-      works = work_on g.E.Eyes.leads g.E.Eyes.levels g.E.Eyes.number g.E.Eyes.viewer g.met.E.Eyes.stays g.met.E.Eyes.leads_on g.met.E.Eyes.same_levels g.met.E.Eyes.same_number g.met.E.Eyes.same_viewer
+      works = work_on g.E.Eyes.front g.met.E.Eyes.laws
           c.args.eyes.now c.loop-x.eyes c.read-number.new.self s s s _ _ _ was.works
-          (held_pixel g.E.Eyes.leads g.E.Eyes.levels g.E.Eyes.number g.E.Eyes.viewer g.met.E.Eyes.stays g.met.E.Eyes.leads_on g.met.E.Eyes.same_levels g.met.E.Eyes.same_number g.met.E.Eyes.same_viewer
+          (held_pixel g.E.Eyes.front g.met.E.Eyes.laws
           c.loop-x.eyes c.read-number.new.self s levels view x y c.args.wanted cell c.in-Some-offset.at c.read-number.result c.args.shades.low c.args.shades.high value
           (in_hand c.args.hand.now c.in-Some.held c.in-Some.is) c.requires.wanted c.requires.low c.requires.high voxel led c.shown.ensures)
           (λ v w span pixel. subst (λ (q : Pixels). IsSpanWay levels view y c.args.picture.now c.args.from.x q (x + 1) (v ++ w)) (sym set)
@@ -92,9 +97,9 @@ loop-x-preserved g c =
         at = c.next-walk.ensures view.affine was.walk.shape.factor x y c.width-width.result was.walk.at;
         map_is = was.walk.map_is;
       };
-      fits = fits_still g.E.Eyes.levels g.E.Eyes.held g.E.Eyes.holds g.E.Eyes.cell_of c.loop-x.eyes c.read-number.new.self c.args.hand.now.held
-          (g.met.E.Eyes.same_levels c.loop-x.eyes c.read-number.new.self _ _ c.read-number.ensures.led) c.read-number.ensures.held c.read-number.ensures.kept was.fits;
-      same = sym (g.met.E.Eyes.same_levels c.loop-x.eyes c.read-number.new.self _ _ c.read-number.ensures.led) ∙ was.same;
+      fits = fits_still g.E.Eyes.front g.E.Eyes.held g.E.Eyes.holds g.E.Eyes.cell_of c.loop-x.eyes c.read-number.new.self c.args.hand.now.held
+          (same_levels g.E.Eyes.front g.met.E.Eyes.laws c.loop-x.eyes c.read-number.new.self _ _ c.read-number.ensures.led) c.read-number.ensures.held c.read-number.ensures.kept was.fits;
+      same = sym (same_levels g.E.Eyes.front g.met.E.Eyes.laws c.loop-x.eyes c.read-number.new.self _ _ c.read-number.ensures.led) ∙ was.same;
       width = ap (λ (q : Pixels). q.width) set ∙ was.width;
       height = ap (λ (q : Pixels). q.height) set ∙ was.height;
       filled = subst IsFilled (sym set) (filled_set p (place p.width x y) value c.args.wanted was.filled);
@@ -104,12 +109,12 @@ pub returns-clause-painted : goal.returns-clause-painted
 returns-clause-painted g c =
     let was = c.loop-x.invariant in
     let end : c.loop-x.x ≡ c.width-width.result = omega (arith, c.loop-x-test.false, was.walk.at.steps) in
-    subst (λ n. Works g.E.Eyes.leads g.E.Eyes.levels g.E.Eyes.number g.E.Eyes.viewer c.args.eyes.now (sight c.args.hand.now) c.loop-x.eyes (sight c.args.hand.now)
-    (IsSpanWay (g.E.Eyes.levels c.args.eyes.now) c.args.view.now c.args.y c.args.picture.now c.args.from.x c.loop-x.picture n)) end was.works
+    subst (λ n. Works g.E.Eyes.front c.args.eyes.now (sight c.args.hand.now) c.loop-x.eyes (sight c.args.hand.now)
+    (IsSpanWay (g.E.Eyes.front.looker c.args.eyes.now).levels c.args.view.now c.args.y c.args.picture.now c.args.from.x c.loop-x.picture n)) end was.works
 
 pub returns-clause-walk : goal.returns-clause-walk
 returns-clause-walk g c =
     let was = c.loop-x.invariant in
     let end : c.loop-x.x ≡ c.width-width.result = omega (arith, c.loop-x-test.false, was.walk.at.steps) in
-    subst (λ w. IsWalk (g.E.Eyes.levels c.args.eyes.now) c.args.view.now.affine c.args.wanted c.width-width.result c.args.y w c.loop-x.walk) c.width-width.ensures.width
-    (subst (λ n. IsWalk (g.E.Eyes.levels c.args.eyes.now) c.args.view.now.affine c.args.wanted n c.args.y c.width-width.result c.loop-x.walk) end was.walk)
+    subst (λ w. IsWalk (g.E.Eyes.front.looker c.args.eyes.now).levels c.args.view.now.affine c.args.wanted c.width-width.result c.args.y w c.loop-x.walk) c.width-width.ensures.width
+    (subst (λ n. IsWalk (g.E.Eyes.front.looker c.args.eyes.now).levels c.args.view.now.affine c.args.wanted n c.args.y c.width-width.result c.loop-x.walk) end was.walk)

@@ -1,7 +1,7 @@
 use Rattle.std.proofs.Common.{refl}
-use Rattle.volatile_cell.proofs.Following.{eyes_release}
-use Rattle.volatile_cell.proofs.Looking.{kept_after_unpin}
-use Rattle.volatile_cell.proofs.sole_eyes.SoleEyesEyes.release.Goals as goal
+use Rattle.sole_eyes.proofs.Following.{eyes_release}
+use Rattle.sole_eyes.proofs.Looking.{kept_after_unpin}
+use Rattle.sole_eyes.proofs.sole_eyes.SoleEyesEyes.release.Goals as goal
 
 pub returns-clause-led : goal.returns-clause-led
 returns-clause-led g c = (refl, refl, refl, eyes_release _ _ c.args.handle.cell c.release.ensures.quiet, refl)

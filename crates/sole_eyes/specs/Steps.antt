@@ -16,14 +16,14 @@ Acquiring c events calls d = (cell : ℕ) × (result : Result Handle AcquireErr)
 abbrev pub Looking : Cached → List Event → List StoreCall → Cached → Type 0
 Looking c events calls d = (cell : ℕ) × (result : Result Handle Seen) × Looks c cell result events d × (calls ≡ [])
 
-abbrev pub Reading : Cached → List Event → List StoreCall → Cached → Type 0
-Reading c events calls d = (cell : ℕ) × (at : ℕ) × (x : ℕ) × (events ≡ Read 0 cell at x ∷ []) × Quiet c events d × (calls ≡ [])
+abbrev pub ReadingStep : Cached → List Event → List StoreCall → Cached → Type 0
+ReadingStep c events calls d = (cell : ℕ) × (at : ℕ) × (x : ℕ) × (events ≡ Read 0 cell at x ∷ []) × Quiet c events d × (calls ≡ [])
 
 abbrev pub Releasing : Cached → List Event → List StoreCall → Cached → Type 0
 Releasing c events calls d = (cell : ℕ) × (events ≡ Unpin 0 cell ∷ []) × Quiet c events d × (calls ≡ [])
 
 abbrev pub IsStep : Cached → List Event → List StoreCall → Cached → Type 0
-IsStep c events calls d = Acquiring c events calls d ⊎ (Looking c events calls d ⊎ (Reading c events calls d ⊎ Releasing c events calls d))
+IsStep c events calls d = Acquiring c events calls d ⊎ (Looking c events calls d ⊎ (ReadingStep c events calls d ⊎ Releasing c events calls d))
 
 -- so many steps, one after another
 abbrev pub AreSteps : ℕ → Cached → List Event → List StoreCall → Cached → Type 0
@@ -33,6 +33,6 @@ AreSteps (suc n) c events calls d =
     × IsStep c first asked mid × AreSteps n mid rest more d × (events ≡ first ++ rest) × (calls ≡ asked ++ more)
 
 -- Steps with these events and these calls of the stores lead from one cache to another.
-pub record Follows (c : Cached) (events : List Event) (calls : List StoreCall) (d : Cached) : Type 0 where
+pub record FollowsStep (c : Cached) (events : List Event) (calls : List StoreCall) (d : Cached) : Type 0 where
   pub count : ℕ
   pub steps : AreSteps count c events calls d

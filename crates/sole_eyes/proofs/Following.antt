@@ -1,7 +1,7 @@
 -- Where steps of eyes lead.
 use Rattle.std.proofs.Common.{◌≡◌, ◌∙◌, ◌⊎◌, ℕ, zero, suc, inl, inr, List, [], ◌∷◌, ◌++◌, refl, sym, ap, subst}
 use Rattle.std.proofs.lemmas.List.{append-nil}
-use Rattle.std.specs.Prelude.{Result, IfErr}
+use Rattle.std.specs.Prelude.{Result, IfErr, OnErr}
 use Rattle.std.specs.declared.result.Result.TheVariants.{Ok, Err}
 use Rattle.cell_file.specs.declared.errors.AcquireErr.{AcquireErr}
 use Rattle.cell_file.specs.declared.errors.AcquireErr.TheVariants as refusal
@@ -10,14 +10,14 @@ use Rattle.store_calls.proofs.Composed.{called_on}
 use Rattle.arr_history.specs.declared.cell_state.Seen.{Seen}
 use Rattle.arr_history.specs.declared.event.Event.{Event}
 use Rattle.arr_history.specs.declared.event.Event.TheVariants.{Read, Unpin}
-use Rattle.sole_cache.specs.Cached.{Cached}
+use Rattle.sole_cache.specs.Cached.{Cached, handles_out}
 use Rattle.sole_cache.specs.Handle.{Handle}
 use Rattle.sole_cache.specs.Acquires.{Acquires, IsAcquire, Looks, Quiet, Drops, HoldsUp}
 use Rattle.sole_cache.specs.Moves.{Runs}
 use Rattle.sole_cache.specs.Pieces.{IsLook, IsCaused}
-use Rattle.volatile_cell.specs.SoleEyes.{EyesLead, IsRefusal}
-use Rattle.volatile_cell.specs.Steps.{IsStep, AreSteps, Follows}
-use Rattle.volatile_cell.proofs.Looking.{leads_by_run}
+use Rattle.sole_eyes.specs.SoleEyes.{EyesLead, IsRefusal}
+use Rattle.sole_eyes.specs.Steps.{IsStep, AreSteps, FollowsStep}
+use Rattle.sole_eyes.proofs.Looking.{leads_by_run}
 
 module _ (c d : Cached) where
   eyes_step : (events : List Event) (calls : List StoreCall) → Runs c events d → IsStep c events calls d → EyesLead c events d
@@ -44,14 +44,14 @@ module _ (c d : Cached) where
   full_of : (cell : ℕ) (err : AcquireErr) (events : List Event) (calls : List StoreCall) → IsAcquire c cell (Err err) events calls → (same : err ≡ refusal.Full) → IsAcquire c cell (Err refusal.Full) events calls
   full_of cell err events calls is same = subst (λ (e : AcquireErr). IsAcquire c cell (Err e) events calls) same is
 
-  pub refusal_as : (cell : ℕ) (err : AcquireErr) (events : List Event) (calls : List StoreCall) → IsCaused c d cell (Err err) → Acquires c cell (Err err) events calls d → IsRefusal c d cell err
-  refusal_as cell err events calls caused done =
-      record { caused = caused; full = λ same. (full_of cell err events calls done.is same).1; events = events; calls = calls; acquires = done }
+  pub refusal_as : (cell : ℕ) (err : AcquireErr) (events : List Event) (calls : List StoreCall) → IsCaused c d cell (Err err) → Acquires c cell (Err err) events calls d → handles_out d ≡ handles_out c → IsRefusal c d cell err
+  refusal_as cell err events calls caused done handles =
+      record { caused = caused; full = λ same. (full_of cell err events calls done.is same).1; handles = handles; events = events; calls = calls; acquires = done }
 
   pub refused_by : (cell : ℕ) (result : Result Handle AcquireErr) (events : List Event) (calls : List StoreCall) → IsCaused c d cell result → Acquires c cell result events calls d
-      → IfErr result (λ err. IsRefusal c d cell err)
-  refused_by cell (Ok h) events calls caused done = tt
-  refused_by cell (Err err) events calls caused done = refusal_as cell err events calls caused done
+      → OnErr result (handles_out d ≡ handles_out c) → IfErr result (λ err. IsRefusal c d cell err)
+  refused_by cell (Ok h) events calls caused done handles = tt
+  refused_by cell (Err err) events calls caused done handles = refusal_as cell err events calls caused done handles
 
   -- what a step asks of the stores leads from what they showed to what they show
   quiet_called : (events : List Event) (calls : List StoreCall) → Quiet c events d → calls ≡ [] → AreCalled calls c.shown d.shown
@@ -69,7 +69,7 @@ steps_called (suc n) c d events calls (mid, first, rest, asked, more, step, step
     subst (λ (k : List StoreCall). AreCalled k c.shown d.shown) (sym asks)
     (called_on c.shown mid.shown d.shown asked more (step_called c mid first asked step) (steps_called n mid d rest more steps))
 
-pub follows_called : (c d : Cached) (events : List Event) (calls : List StoreCall) → Follows c events calls d → AreCalled calls c.shown d.shown
+pub follows_called : (c d : Cached) (events : List Event) (calls : List StoreCall) → FollowsStep c events calls d → AreCalled calls c.shown d.shown
 follows_called c d events calls follows = steps_called follows.count c d events calls follows.steps
 
 -- a step has an event
@@ -101,7 +101,7 @@ step_event c d events calls (inr (inr (inl (cell, at, x, is, quiet, none)))) = (
 step_event c d events calls (inr (inr (inr (cell, is, quiet, none)))) = (_, _, is)
 
 -- where there was no event there was no step
-pub follows_nothing : (c d : Cached) (calls : List StoreCall) → Follows c [] calls d → (d ≡ c) × (calls ≡ [])
+pub follows_nothing : (c d : Cached) (calls : List StoreCall) → FollowsStep c [] calls d → (d ≡ c) × (calls ≡ [])
 follows_nothing c d calls follows = go follows.count follows.steps
   where
     go : (n : ℕ) → AreSteps n c [] calls d → (d ≡ c) × (calls ≡ [])

@@ -1,16 +1,15 @@
 // Eyes over the cache of one thread.
-ghost use Rattle.std.specs.Prelude.{◌≡◌, ◌<◌, length};
+ghost use Rattle.std.specs.Prelude.{◌≡◌, ◌<◌, false, length};
 ghost use Rattle.cell_grid.specs.Pyramid.{cells_of};
+ghost use Rattle.fetch_queue.specs.Queue.{pair, put_request};
+ghost use Rattle.volatile_cell.specs.Requests.{IsQueueFor, priority_of};
 
-use crate::budget::Budget;
-use crate::eyes::Eyes;
-use crate::look::Look;
-use crate::requests::hints;
 use cell_file::AcquireErr;
 use cell_grid::Geometry;
 use cell_store::Store;
 use fetch_queue::{Queues, Request};
 use sole_cache::{SoleCache, SoleHandle};
+use volatile_cell::{Budget, Eyes, Look, hints};
 
 /// Eyes over the cache of one thread and a queue, for one viewer.
 #[derive(Drop)]
@@ -26,12 +25,10 @@ pub struct SoleEyes<'a, S: Store> {
 impl<'a, S: Store> SoleEyes<'a, S> {
     ghost use Rattle.std.specs.Prelude.{◌≡◌, ◌<◌};
     ghost use Rattle.sole_cache.specs.Cached.{handles_out};
-    ghost use Rattle.sole_cache.specs.Value.{by};
-    ghost use Rattle.volatile_cell.specs.SoleEyes.{IsQueueFor};
 
     /// Eyes over a cache and a queue. They take no memory.
     pub fn new(cache: &'a mut SoleCache<S>, queue: &'a mut Queues, viewer: u32) -> SoleEyes<'a, S>
-        requires free { handles_out (by S.contents cache.old) ≡ 0 }
+        requires free { handles_out cache.old ≡ 0 }
         requires viewer { viewer < queue.old.viewers }
         requires queue { IsQueueFor queue.old cache.old.levels }
         ensures same_cache { result.cache.ghost_name ≡ cache.entry.ghost_name }
@@ -51,42 +48,37 @@ impl<'a, S: Store> SoleEyes<'a, S> {
 impl<'a, S: Store> Eyes for SoleEyes<'a, S> {
     type Held = SoleHandle;
 
-    ghost use Rattle.std.specs.Prelude.{◌≡◌, ℕ, List};
+    ghost use Rattle.std.specs.Prelude.{◌≡◌};
     ghost use Rattle.std.proofs.Common.{refl, sym, ◌∙◌};
-    ghost use Rattle.sole_cache.specs.Cached.{handles_out};
-    ghost use Rattle.sole_cache.specs.Value.{by};
+    ghost use Rattle.sole_cache.specs.Cached.{handles_out, state_of};
     ghost use Rattle.sole_cache.specs.Handle.{IsHandleOf};
+    ghost use Rattle.volatile_cell.proofs.Pins.{pins_are};
     ghost use Rattle.volatile_cell.specs.Asked.{AskedFrom};
-    ghost use Rattle.volatile_cell.specs.SoleEyes.{EyesLead, IsRefusal};
-    ghost use Rattle.volatile_cell.specs.SoleLaws.{eyes_nowhere, eyes_after, asked_after};
+    ghost use Rattle.sole_eyes.specs.SoleEyes.{EyesLead, IsRefusal, sole};
+    ghost use Rattle.sole_eyes.specs.SoleLaws.{eyes_nowhere, eyes_after, same_sole};
+    ghost use Rattle.volatile_cell.proofs.Asking.{asked_after};
 
-    ghost levels = { λ e. e.cache.now.levels };
+    ghost front = { record {
+      looker = λ e. sole e.viewer e.cache.now.levels;
+      pins = λ e c. (state_of e.cache.now).pins 0 c;
+      leads = λ a p u b. (a.cache.ghost_name ≡ b.cache.ghost_name) × (a.queue.ghost_name ≡ b.queue.ghost_name) × (a.viewer ≡ b.viewer) × EyesLead a.cache.now p b.cache.now × AskedFrom a.queue.now u b.queue.now;
+      caused = λ a b cell err. IsRefusal a.cache.now b.cache.now cell err;
+    } };
 
-    ghost number = { λ _. 0 };
+    ghost held = { λ e. handles_out e.cache.now };
 
-    ghost viewer = { λ e. e.viewer };
-
-    ghost held = { λ e. handles_out (by S.contents e.cache.now) };
-
-    ghost holds = { λ e h. IsHandleOf (by S.contents e.cache.now) h };
+    ghost holds = { λ e h. IsHandleOf e.cache.now h };
 
     ghost cell_of = { λ h. h.cell };
 
     ghost is_loaded = { λ h. h.loaded };
 
-    ghost leads = { λ a p u b. (a.cache.ghost_name ≡ b.cache.ghost_name) × (a.queue.ghost_name ≡ b.queue.ghost_name) × (a.viewer ≡ b.viewer) × EyesLead (by S.contents a.cache.now) p (by S.contents b.cache.now) × AskedFrom a.queue.now u b.queue.now };
-
-    ghost caused = { λ a b cell err. IsRefusal (by S.contents a.cache.now) (by S.contents b.cache.now) cell err };
-
-    ghost stays = { λ e. (refl, refl, refl, eyes_nowhere (by S.contents e.cache.now), refl) };
-
-    ghost leads_on = { λ a b c p q u v g h. (g.0 ∙ h.0, g.1 ∙ h.1, g.2 ∙ h.2, eyes_after (by S.contents a.cache.now) (by S.contents b.cache.now) (by S.contents c.cache.now) p q g.3 h.3, asked_after a.queue.now b.queue.now c.queue.now u v g.4 h.4) };
-
-    ghost same_levels = { λ a b p u g. sym g.3.leads.moves.levels };
-
-    ghost same_number = { λ a b p u g. refl };
-
-    ghost same_viewer = { λ a b p u g. g.2 };
+    ghost laws = { record {
+      stays = λ e. (refl, refl, refl, eyes_nowhere e.cache.now, refl);
+      leads_on = λ a b c p q u v g h. (g.0 ∙ h.0, g.1 ∙ h.1, g.2 ∙ h.2, eyes_after a.cache.now b.cache.now c.cache.now p q g.3 h.3, asked_after a.queue.now b.queue.now c.queue.now u v g.4 h.4);
+      same = λ a b p u g. same_sole a.viewer b.viewer a.cache.now.levels b.cache.now.levels g.2 (sym g.3.leads.moves.levels);
+      counted = λ a b p u g c. sym (g.3.leads.moves.led.reached.pins 0 c) ∙ pins_are (state_of a.cache.now) 0 c p;
+    } };
 
     fn geometry(&self) -> &Geometry {
         self.cache.geometry()
@@ -98,7 +90,7 @@ impl<'a, S: Store> Eyes for SoleEyes<'a, S> {
 
     fn look(&mut self, cell: u32, budget: &mut Budget) -> Result<Look<SoleHandle>, AcquireErr> {
         if budget.loads() {
-            return match self.cache.acquire(cell) {
+            return match self.acquire(cell) {
                 Err(refusal) => Err(refusal),
                 Ok(handle) => {
                     budget.spend(handle.loaded());
@@ -110,9 +102,7 @@ impl<'a, S: Store> Eyes for SoleEyes<'a, S> {
             Ok(handle) => Ok(Look::Ready(handle)),
             Err(state) => {
                 if budget.asks() {
-                    let hints = hints(self.cache.geometry(), cell);
-                    self.queue
-                        .put(self.viewer, cell, hints.priority, hints.to_front);
+                    ask(self.queue, self.cache.geometry(), self.viewer, cell);
                 }
                 Ok(Look::NotReady { state })
             }
@@ -138,4 +128,15 @@ impl<'a, S: Store> Eyes for SoleEyes<'a, S> {
     fn next(&mut self) -> Option<Request> {
         self.queue.take()
     }
+}
+
+/// Asks for a cell: its request goes to the back of the priority of its level.
+fn ask(queue: &mut Queues, geometry: &Geometry, viewer: u32, cell: u32)
+    requires viewer { viewer < queue.old.viewers }
+    requires queue { IsQueueFor queue.old geometry.now }
+    requires cell { cell < cells_of geometry.now }
+    ensures { queue.new ≡ put_request queue.old (pair viewer cell) (priority_of geometry.now cell) false }
+{
+    let hints = hints(geometry, cell);
+    queue.put(viewer, cell, hints.priority, hints.to_front);
 }
