@@ -9,8 +9,8 @@ use Rattle.sole_cache.specs.Acquires.{Acquires}
 use Rattle.sole_cache.specs.Cached.{Cached}
 use Rattle.store_calls.specs.Calls.{StoreCall}
 use Rattle.volatile_cell.specs.Asked.{Asked, AskedFrom}
-use Rattle.volatile_cell.specs.Steps.{Follows}
-use Rattle.team_run.specs.Desk.{Desk, DeskFollows, IsDeskRefusal, levels_at}
+use Rattle.sole_eyes.specs.Steps.{FollowsStep}
+use Rattle.team_run.specs.Desk.{Desk, DeskFollows, IsDeskRefusal, desk_front}
 use Rattle.team_run.specs.Fetches.{AreDeskServings, stores_of_all}
 use Rattle.alike_frames.proofs.OverEyes as over
 
@@ -23,7 +23,7 @@ queue_at d = d.queue
 abbrev pub stores_at : (a : Desk) (events : List Event) (asked : List Asked) (b : Desk) → DeskFollows a events asked b → List StoreCall
 stores_at a events asked b l = l.cache.calls
 
-abbrev pub follows_at : (a : Desk) (events : List Event) (asked : List Asked) (b : Desk) (l : DeskFollows a events asked b) → Follows a.cache events l.cache.calls b.cache
+abbrev pub follows_at : (a : Desk) (events : List Event) (asked : List Asked) (b : Desk) (l : DeskFollows a events asked b) → FollowsStep a.cache events l.cache.calls b.cache
 follows_at a events asked b l = l.cache.follows
 
 abbrev pub asks_at : (a : Desk) (events : List Event) (asked : List Asked) (b : Desk) → DeskFollows a events asked b → AskedFrom a.queue asked b.queue
@@ -37,7 +37,7 @@ acquires_at a b cell err c = (c.events, c.acquires)
 
 -- what servings asked of the stores
 abbrev pub asked_at : (a b : Desk) (servings : List Served) (events : List Event) (asked : List Asked) → AreDeskServings a servings events asked b → List StoreCall
-asked_at a b servings events asked are = over.servings_stores DeskFollows levels_at (λ _. 0) (λ _. 0) IsDeskRefusal cache_at queue_at (λ _. refl) (λ _. refl) stores_at follows_at asks_at tried_at acquires_at a servings events asked b are
+asked_at a b servings events asked are = over.servings_stores (desk_front 0) cache_at queue_at (λ _. refl) stores_at follows_at asks_at tried_at acquires_at a servings events asked b are
 
 -- it is told alike by both
 pub stores_same : (a b : Desk) (servings : List Served) (events : List Event) (asked : List Asked) (are : AreDeskServings a servings events asked b)

@@ -6,7 +6,7 @@ use Rattle.arr_history.specs.declared.closed.Unsaved.{Unsaved}
 use Rattle.arr_history.specs.declared.event.Event.{Event}
 use Rattle.arr_history.specs.declared.event.Event.TheVariants as event
 use Rattle.arr_history.specs.declared.tally.Tally.{Tally}
-use Rattle.arr_history.specs.Tally.{is_hit, is_miss, is_load, is_gone, is_writeback, cut, raised}
+use Rattle.arr_history.specs.Tally.{is_hit, is_miss, is_load, is_gone, is_writeback, cut, tally_raised}
 use Rattle.arr_history.proofs.Counts.{same_tallies}
 use Rattle.sole_cache.specs.Slot.{SlotValue}
 use Rattle.sole_cache.specs.Shut.{IsClosedAt, AreClosed}
@@ -99,7 +99,7 @@ cut_same a b e = ap cut e
 
 -- The counts of a run that was shut.
 pub closed_same : (t : Tally) (slots others : List SlotValue) (u : List Unsaved) (e f : List Event) → AreClosed slots u e → AreClosed others u f → count_by is_taken others ≡ count_by is_taken slots → count_by is_due others ≡ count_by is_due slots
-    → raised t [] f ≡ raised t [] e
+    → tally_raised t [] f ≡ tally_raised t [] e
 closed_same t slots others u e f g h taken due =
     let first = all_slots slots u e g in
     let second = all_slots others u f h in

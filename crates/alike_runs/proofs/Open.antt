@@ -23,7 +23,7 @@ use Rattle.store_calls.specs.Calls.{AreCalled}
 use Rattle.store_calls.proofs.Parts.{called_lanes}
 use Rattle.cell_file.proofs.KeyLemmas.{are_their_own}
 use Rattle.sole_cache.specs.Puts.{named_by, IsPutWhere, IsPutAt, ArePut}
-use Rattle.alike_caches.specs.Alike.{IsUnnamed}
+use Rattle.alike_caches.specs.Alike.{IsUnnamedKey}
 use Rattle.alike_runs.proofs.Named.{owns_at, owns, owned_once}
 
 same_lane : (a b : ℕ) → a ≡ b → (a == b) ≡ true
@@ -110,35 +110,35 @@ module _ (levels : List Level) (lanes lane : ℕ) (key : List ℕ) where
             absurd (true_false (sym stays ∙ ap (λ x. is_left_open lane key x rest) (sym hit) ∙ closed))
 
     by_answer : (n : ℕ) (slots : List SlotValue) (more : List Unsaved) (rest : List StoreCall) (values : List ℕ) (answer : Put) (b : Bool) → n < cells_of levels → AreCells slots → count_by (owns n) slots ≡ 0
-        → ArePut levels lanes slots more rest → is_left_open lane key (is_left_open lane key b (save_call levels (lane_of n lanes) n values answer ∷ [])) rest ≡ false → IsUnnamed levels lanes (named_by n answer) lane key
+        → ArePut levels lanes slots more rest → is_left_open lane key (is_left_open lane key b (save_call levels (lane_of n lanes) n values answer ∷ [])) rest ≡ false → IsUnnamedKey levels lanes (named_by n answer) lane key
     by_answer n slots more rest values put.Done b ln cells only others closed = tt
     by_answer n slots more rest values put.Failed b ln cells only others closed = (named_away n slots more rest values put.Failed b ln cells only others refl closed, tt)
     by_answer n slots more rest values put.NoMemory b ln cells only others closed = (named_away n slots more rest values put.NoMemory b ln cells only others refl closed, tt)
 
     by_mark : (marked : Bool) (n : ℕ) (frame : List ℕ) (slots : List SlotValue) (first more : List Unsaved) (asked rest : List StoreCall) (b : Bool) → n < cells_of levels → AreCells slots → count_by (owns n) slots ≡ 0
-        → IsPutWhere levels lanes marked n frame first asked → ArePut levels lanes slots more rest → is_left_open lane key (is_left_open lane key b asked) rest ≡ false → IsUnnamed levels lanes first lane key
-    by_mark false n frame slots first more asked rest b ln cells only (none, nothing) others closed = subst (λ (l : List Unsaved). IsUnnamed levels lanes l lane key) (sym none) tt
+        → IsPutWhere levels lanes marked n frame first asked → ArePut levels lanes slots more rest → is_left_open lane key (is_left_open lane key b asked) rest ≡ false → IsUnnamedKey levels lanes first lane key
+    by_mark false n frame slots first more asked rest b ln cells only (none, nothing) others closed = subst (λ (l : List Unsaved). IsUnnamedKey levels lanes l lane key) (sym none) tt
     by_mark true n frame slots first more asked rest b ln cells only (answer, named, is) others closed =
-        subst (λ (l : List Unsaved). IsUnnamed levels lanes l lane key) (sym named)
+        subst (λ (l : List Unsaved). IsUnnamedKey levels lanes l lane key) (sym named)
         (by_answer n slots more rest (take (voxels_of levels n) frame) answer b ln cells only others (ap (λ x. is_left_open lane key (is_left_open lane key b x) rest) (sym is) ∙ closed))
 
     by_slot : (s : SlotValue) (o : Option ℕ) (slots : List SlotValue) (first more : List Unsaved) (asked rest : List StoreCall) (b : Bool) → ((n : ℕ) → o ≡ Some n → (n < cells_of levels) × (count_by (owns n) slots ≡ 0)) → AreCells slots
-        → IsPutAt levels lanes s o first asked → ArePut levels lanes slots more rest → is_left_open lane key (is_left_open lane key b asked) rest ≡ false → IsUnnamed levels lanes first lane key
-    by_slot s None slots first more asked rest b owner cells (none, nothing) others closed = subst (λ (l : List Unsaved). IsUnnamed levels lanes l lane key) (sym none) tt
+        → IsPutAt levels lanes s o first asked → ArePut levels lanes slots more rest → is_left_open lane key (is_left_open lane key b asked) rest ≡ false → IsUnnamedKey levels lanes first lane key
+    by_slot s None slots first more asked rest b owner cells (none, nothing) others closed = subst (λ (l : List Unsaved). IsUnnamedKey levels lanes l lane key) (sym none) tt
     by_slot s (Some n) slots first more asked rest b owner cells put others closed = by_mark s.marked n s.frame slots first more asked rest b (owner n refl).0 cells (owner n refl).1 put others closed
 
-    unnamed_on : (us vs : List Unsaved) → IsUnnamed levels lanes us lane key → IsUnnamed levels lanes vs lane key → IsUnnamed levels lanes (us ++ vs) lane key
+    unnamed_on : (us vs : List Unsaved) → IsUnnamedKey levels lanes us lane key → IsUnnamedKey levels lanes vs lane key → IsUnnamedKey levels lanes (us ++ vs) lane key
     unnamed_on [] vs g h = h
     unnamed_on (u ∷ us) vs (here, g) h = (here, unnamed_on us vs g h)
 
     -- A key that the shutting doesn't leave open is of no cell that it names.
     pub named_open : (slots : List SlotValue) (u : List Unsaved) (calls : List StoreCall) (b : Bool) → ((k : ℕ) → count_by (owns k) slots ≤ 1) → AreCells slots → ArePut levels lanes slots u calls
-        → is_left_open lane key b calls ≡ false → IsUnnamed levels lanes u lane key
-    named_open [] u calls b once cells (none, asked) closed = subst (λ (l : List Unsaved). IsUnnamed levels lanes l lane key) (sym none) tt
+        → is_left_open lane key b calls ≡ false → IsUnnamedKey levels lanes u lane key
+    named_open [] u calls b once cells (none, asked) closed = subst (λ (l : List Unsaved). IsUnnamedKey levels lanes l lane key) (sym none) tt
     named_open (s ∷ slots) u calls b once (here, there) (first, more, asked, rest, one, others, split, asks) closed =
         let then : is_left_open lane key (is_left_open lane key b asked) rest ≡ false = sym (open_on lane key b asked rest) ∙ ap (is_left_open lane key b) (sym asks) ∙ closed in
         let later = named_open slots more rest (is_left_open lane key b asked) fewer there others then in
-        subst (λ (l : List Unsaved). IsUnnamed levels lanes l lane key) (sym split) (unnamed_on first more (by_slot s s.cell slots first more asked rest b (λ n is. (here n is, only n is)) there one others then) later)
+        subst (λ (l : List Unsaved). IsUnnamedKey levels lanes l lane key) (sym split) (unnamed_on first more (by_slot s s.cell slots first more asked rest b (λ n is. (here n is, only n is)) there one others then) later)
       where
         fewer : (k : ℕ) → count_by (owns k) slots ≤ 1
         fewer k = let all = sum_by-cons (λ s. cond (owns k s) 1 0) s slots in let few = once k in omega (arith, all, few)
@@ -153,9 +153,9 @@ cells_from levels lanes lane key d (s ∷ slots) all = ((λ n is. all 0 n (omega
 
 -- A key that the shutting of a cache doesn't leave open is of no cell that it names.
 pub unnamed_after : (c : Cached) (after : List Contents) (u : List Unsaved) (calls : List StoreCall) (b : Bool) (lane : ℕ) (key : List ℕ) → AreKeys c.keys → IsCache c → ArePut c.levels (length c.shown) c.slots u calls
-    → AreCalled calls c.shown after → is_left_open lane key b calls ≡ false → IsUnnamed c.levels (length after) u lane key
+    → AreCalled calls c.shown after → is_left_open lane key b calls ≡ false → IsUnnamedKey c.levels (length after) u lane key
 unnamed_after c after u calls b lane key own valid put called closed =
-    subst (λ n. IsUnnamed c.levels n u lane key) (sym (called_lanes calls c.shown after called))
+    subst (λ n. IsUnnamedKey c.levels n u lane key) (sym (called_lanes calls c.shown after called))
     (named_open c.levels (length c.shown) lane key distinct c.slots u calls b (λ k. owned_once c k valid) (cells_from c.levels (length c.shown) lane key no_slot c.slots (λ i n lt is. in_range i n is)) put closed)
   where
     distinct : (m n : ℕ) → m < cells_of c.levels → n < cells_of c.levels → edited_key c.levels m ≡ edited_key c.levels n → m ≡ n

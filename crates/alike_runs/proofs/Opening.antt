@@ -12,6 +12,7 @@ use Rattle.sole_cache.specs.Open.{IsOpened}
 use Rattle.sole_cache.specs.Valid.{IsCache}
 use Rattle.alike_caches.specs.Alike.{AreAlike}
 use Rattle.alike_runs.specs.Holding.{HoldAlike}
+use Rattle.cell_store.specs.Store.{held_of}
 
 -- what a store stands for is decided by the two keys of a cell
 standing_same : (levels : List Level) (keys : KeyNames) (n : ℕ) (h k : List ℕ → Option (List ℕ)) → ((key : List ℕ) → k key ≡ h key) → standing levels keys k n ≡ standing levels keys h n
@@ -30,9 +31,9 @@ module _ (levels : List Level) (keys : KeyNames) (slots : ℕ) (c d : Cached) (o
       let lane = lane_of n (length c.shown) in
       let there : lane < length c.shown = mod-lt n first.fitted.some_stores in
       let store : store_of d n ≡ store_in d.shown lane = ap (λ k. store_in d.shown (lane_of n k)) hold.lanes in
-      ap (λ s. standing d.levels d.keys s.held n) store
-      ∙ standing_same d.levels d.keys n (store_in c.shown lane).held (store_in d.shown lane).held (λ key. hold.held lane key there)
-      ∙ ap (λ l. standing l d.keys (store_in c.shown lane).held n) same_levels ∙ ap (λ k. standing c.levels k (store_in c.shown lane).held n) same_keys
+      ap (λ s. standing d.levels d.keys (held_of s) n) store
+      ∙ standing_same d.levels d.keys n (held_of (store_in c.shown lane)) (held_of (store_in d.shown lane)) (λ key. hold.held lane key there)
+      ∙ ap (λ l. standing l d.keys (held_of (store_in c.shown lane)) n) same_levels ∙ ap (λ k. standing c.levels k (held_of (store_in c.shown lane)) n) same_keys
 
   same_states : IsSame (shape_of c) (state_of c) (state_of d)
   same_states = record {

@@ -1,9 +1,9 @@
 -- A run is one function of its commands, of what its stores hold, and of which of their calls failed.
 use Rattle.std.proofs.Common.{◌≡◌, ◌∙◌, false, List, [], ◌++◌, length, refl, sym, ap, subst, append_assoc}
-use Rattle.std.specs.List.Sorted.{IsPermutation}
+use Rattle.std.specs.List.Sorted.{IsNonDecreasingBy, IsPermutation}
 use Rattle.arr_history.specs.declared.closed.Unsaved.{Unsaved}
 use Rattle.arr_history.specs.declared.tally.Tally.{Tally}
-use Rattle.arr_history.specs.Tally.{raised}
+use Rattle.arr_history.specs.Tally.{tally_raised}
 use Rattle.cell_store.specs.Store.{Contents}
 use Rattle.run_report.specs.declared.report.Report.{Report}
 use Rattle.run_report.specs.declared.shot.Shot.{Shot}
@@ -17,7 +17,7 @@ use Rattle.alike_caches.specs.Alike.{AreAlikeBut}
 use Rattle.alike_caches.specs.Laws.{GetsAreAlike, SetsAreAlike, ShutsAreAlike}
 use Rattle.alike_runs.specs.Holding.{HoldAlike, LeftAlike}
 use Rattle.alike_runs.specs.Runs.{DesksAreAlike, AreSameShots, TellAlike, RunsAreAlike}
-use Rattle.alike_runs.specs.Commands.{ViewsAreAlike, FetchesAreAlike}
+use Rattle.alike_runs.specs.Commands.{ViewsAreAlike, FetchCommandsAreAlike}
 use Rattle.alike_runs.proofs.Ascending.{ascending_same}
 use Rattle.alike_runs.proofs.Closing.{closed_same}
 use Rattle.alike_runs.proofs.Named.{named_apart}
@@ -26,9 +26,10 @@ use Rattle.alike_runs.proofs.Opening.{opened_alike}
 use Rattle.alike_runs.proofs.Serving.{all_alike}
 use Rattle.alike_runs.proofs.Slots.{taken_same, due_same}
 
-module _ (gets : GetsAreAlike) (sets : SetsAreAlike) (views : ViewsAreAlike) (fetches : FetchesAreAlike) (shuts : ShutsAreAlike) where
+module _ (gets : GetsAreAlike) (sets : SetsAreAlike) (views : ViewsAreAlike) (fetches : FetchCommandsAreAlike) (shuts : ShutsAreAlike) where
   module _ (commands : List NumberedCommand) (first again : Desk) (after new : List Contents) (report other : Report) (m n : List StoreCall)
-      (alike : DesksAreAlike first again) (r : Completes first commands after report) (s : Completes again commands new other) (fail : FailAlike (run_calls r ++ m) (run_calls s ++ n)) where
+      (alike : DesksAreAlike first again) (r : Completes first commands after report) (s : Completes again commands new other)
+      (rises : IsNonDecreasingBy (λ u. u.cell) report.unsaved) (too : IsNonDecreasingBy (λ u. u.cell) other.unsaved) (fail : FailAlike (run_calls r ++ m) (run_calls s ++ n)) where
     split : FailAlike (r.trace.stores ++ (r.closing_calls ++ m)) (s.trace.stores ++ (s.closing_calls ++ n))
     split = subst (λ (x : List StoreCall). FailAlike x (s.trace.stores ++ (s.closing_calls ++ n))) (append_assoc r.trace.stores r.closing_calls m)
         (subst (λ (y : List StoreCall). FailAlike (run_calls r ++ m) y) (append_assoc s.trace.stores s.closing_calls n) fail)
@@ -43,10 +44,10 @@ module _ (gets : GetsAreAlike) (sets : SetsAreAlike) (views : ViewsAreAlike) (fe
     named = subst (λ (u : List Unsaved). IsPermutation u other.unsaved) shut.0 s.named
 
     same_unsaved : other.unsaved ≡ report.unsaved
-    same_unsaved = ascending_same (λ (u : Unsaved). u.cell) r.unsaved other.unsaved report.unsaved (named_apart r.last.cache (length r.last.cache.shown) r.unsaved r.closing_calls r.valid r.puts) named r.named s.ascending r.ascending
+    same_unsaved = ascending_same (λ (u : Unsaved). u.cell) r.unsaved other.unsaved report.unsaved (named_apart r.last.cache (length r.last.cache.shown) r.unsaved r.closing_calls r.valid r.puts) named r.named too rises
 
     same_tally : other.tally ≡ report.tally
-    same_tally = s.counted ∙ ap (λ (t : Tally). raised t [] s.closing) done.2.cache.tally
+    same_tally = s.counted ∙ ap (λ (t : Tally). tally_raised t [] s.closing) done.2.cache.tally
         ∙ closed_same r.last.cache.tally r.last.cache.slots s.last.cache.slots r.unsaved r.closing s.closing r.closed (subst (λ (u : List Unsaved). AreClosed s.last.cache.slots u s.closing) shut.0 s.closed)
         (taken_same r.last.cache s.last.cache done.2.cache) (due_same r.last.cache s.last.cache done.2.cache)
         ∙ sym r.counted
@@ -71,4 +72,4 @@ module _ (gets : GetsAreAlike) (sets : SetsAreAlike) (views : ViewsAreAlike) (fe
       let held : HoldAlike run.first.shown again.first.shown =
       subst (λ (x : List Contents). HoldAlike x again.first.shown) (sym run.begins) (subst (λ (y : List Contents). HoldAlike before y) (sym again.begins) hold) in
       let opened = opened_alike levels keys slots run.first again.first run.opened again.opened run.opened.own run.opened.valid again.opened.valid held in
-      completed commands (desk run.first (first_queue levels)) (desk again.first (first_queue levels)) after new report other m n (record { cache = opened; queue = refl }) run.completes again.completes fail
+      completed commands (desk run.first (first_queue levels)) (desk again.first (first_queue levels)) after new report other m n (record { cache = opened; queue = refl }) run.completes again.completes run.headline.ascending again.headline.ascending fail

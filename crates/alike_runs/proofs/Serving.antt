@@ -10,12 +10,12 @@ use Rattle.view_script.specs.Script.{NumberedCommand}
 use Rattle.fetch_queue.specs.Queue.{Queue}
 use Rattle.volatile_cell.specs.Asked.{Asked, AskedFrom}
 use Rattle.team_run.specs.Desk.{Desk, DeskLeads}
-use Rattle.team_run.specs.Serve.{IsServed, ServesAll}
+use Rattle.team_run.specs.Serve.{IsServed, ServesTasks}
 use Rattle.team_run.specs.Trace.{Trace, and_then}
 use Rattle.alike_caches.specs.Alike.{AreAlike}
 use Rattle.alike_caches.specs.Laws.{GetsAreAlike, SetsAreAlike}
 use Rattle.alike_runs.specs.Runs.{DesksAreAlike, IsSameShot, AreSameShots}
-use Rattle.alike_runs.specs.Commands.{ViewsAreAlike, FetchesAreAlike}
+use Rattle.alike_runs.specs.Commands.{ViewsAreAlike, FetchCommandsAreAlike}
 use Rattle.alike_runs.proofs.Voxels.{get_alike, set_alike}
 
 -- no shots are the same shots
@@ -42,14 +42,14 @@ desks_stay a b a' b' u v alike none too asked again caches = record { cache = ca
 abbrev Both : Desk → Desk → Answer → Answer → Trace → Trace → List StoreCall → List StoreCall → Type 0
 Both a' b' p q t u m n = (q ≡ p) × AreSameShots t.shots u.shots × DesksAreAlike a' b' × FailAlike m n
 
-module _ (gets : GetsAreAlike) (sets : SetsAreAlike) (views : ViewsAreAlike) (fetches : FetchesAreAlike) where
+module _ (gets : GetsAreAlike) (sets : SetsAreAlike) (views : ViewsAreAlike) (fetches : FetchCommandsAreAlike) where
   serve_alike : (a b a' b' : Desk) (viewer : ℕ) (c : Command) (p q : Answer) (t u : Trace) (m n : List StoreCall) → DesksAreAlike a b → IsServed a viewer c p t a' → IsServed b viewer c q u b'
       → DeskLeads a t.events t.calls a' → DeskLeads b u.events u.calls b' → FailAlike (t.stores ++ m) (u.stores ++ n) → Both a' b' p q t u m n
-  serve_alike a b a' b' viewer (command.Get level pos) p q t u m n alike (got, asks, only) (got', asks', only') lead lead' fail =
-      let both = get_alike gets a.cache b.cache a'.cache b'.cache level pos t.stores u.stores m n alike.cache fail p q asks asks' in
+  serve_alike a b a' b' viewer (command.Get level pos) p q t u m n alike (got, only) (got', only') lead lead' fail =
+      let both = get_alike gets a.cache b.cache a'.cache b'.cache level pos t.events u.events t.stores u.stores m n alike.cache fail p q got got' in
       (both.0, no_shots t.shots u.shots only.shots only'.shots, desks_stay a b a' b' t.calls u.calls alike only.calls only'.calls lead.queue lead'.queue both.1, both.2)
-  serve_alike a b a' b' viewer (command.Set level pos x) p q t u m n alike (put, asks, only) (put', asks', only') lead lead' fail =
-      let both = set_alike sets a.cache b.cache a'.cache b'.cache level pos x t.stores u.stores m n alike.cache fail p q asks asks' in
+  serve_alike a b a' b' viewer (command.Set level pos x) p q t u m n alike (put, only) (put', only') lead lead' fail =
+      let both = set_alike sets a.cache b.cache a'.cache b'.cache level pos x t.events u.events t.stores u.stores m n alike.cache fail p q put put' in
       (both.0, no_shots t.shots u.shots only.shots only'.shots, desks_stay a b a' b' t.calls u.calls alike only.calls only'.calls lead.queue lead'.queue both.1, both.2)
   serve_alike a b a' b' viewer (command.View name view) p q t u m n alike (s, one, none, named, viewed) (s', one', none', named', viewed') lead lead' fail =
       let both = views a b a' b' viewer view s s' t.events u.events t.calls u.calls t.stores u.stores m n p q alike viewed viewed' fail in
@@ -67,7 +67,7 @@ module _ (gets : GetsAreAlike) (sets : SetsAreAlike) (views : ViewsAreAlike) (fe
           ∙ ap (λ x. record { phase = r.phase; actor = r.actor; call = x; answer = s.answer }) g ∙ ap (λ x. record { phase = r.phase; actor = r.actor; call = r.call; answer = x }) h
 
   -- All commands, one after another.
-  pub all_alike : (a b a' b' : Desk) (commands : List NumberedCommand) (replies others : List Reply) (t u : Trace) (m n : List StoreCall) → DesksAreAlike a b → ServesAll a commands replies t a' → ServesAll b commands others u b'
+  pub all_alike : (a b a' b' : Desk) (commands : List NumberedCommand) (replies others : List Reply) (t u : Trace) (m n : List StoreCall) → DesksAreAlike a b → ServesTasks a commands replies t a' → ServesTasks b commands others u b'
       → FailAlike (t.stores ++ m) (u.stores ++ n) → (others ≡ replies) × AreSameShots t.shots u.shots × DesksAreAlike a' b' × FailAlike m n
   all_alike a b a' b' [] [] [] t u m n alike (none, stays) (none', stays') fail = (
     refl,

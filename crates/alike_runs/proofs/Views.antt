@@ -14,7 +14,7 @@ use Rattle.scale_pick.specs.Painted.{painted_of}
 use Rattle.scale_pick.specs.Wanted.{wanted_level}
 use Rattle.store_calls.specs.Calls.{StoreCall, FailAlike}
 use Rattle.volatile_cell.specs.Asked.{Asked}
-use Rattle.team_run.specs.Desk.{Desk, DeskFollows, IsDeskRefusal, levels_at}
+use Rattle.team_run.specs.Desk.{Desk, desk_front}
 use Rattle.team_run.specs.Views as team
 use Rattle.alike_frames.specs.Frames.{PicturesAreOne}
 use Rattle.alike_frames.proofs.OverEyes as over
@@ -44,7 +44,7 @@ module _ (laws : AlikeLaws) (one : PicturesAreOne) (a b a' b' : Desk) (viewer : 
 
   both_painted : (p q : Painted) → team.Paints a viewer view s e u k p a' → team.Paints b viewer view t f v l q b' → Same (answer.Frame p) (answer.Frame q)
   both_painted p q g h =
-      let both = over.paints_alike DeskFollows levels_at (λ _. 0) (λ _. viewer) IsDeskRefusal cache_at queue_at (λ _. refl) (λ _. refl) stores_at follows_at asks_at tried_at acquires_at laws
+      let both = over.paints_alike (desk_front viewer) cache_at queue_at (λ _. refl) stores_at follows_at asks_at tried_at acquires_at laws
       a a' b b' view s.picture t.picture m n g.frame h.frame alike.cache alike.queue refl (told_fail _ _ g.stores_are h.stores_are) in
       let picture : t.picture ≡ s.picture = one s.picture t.picture g.filled h.filled both.2 in
       let told : q ≡ p = h.told ∙ ap (λ (ls : List Level). painted_of (wanted_level ls view) t.picture) same_levels ∙ ap (painted_of (wanted_level a.cache.levels view)) picture ∙ sym g.told in
@@ -52,16 +52,16 @@ module _ (laws : AlikeLaws) (one : PicturesAreOne) (a b a' b' : Desk) (viewer : 
 
   both_cut : (x y : AcquireErr) → team.CutsOff a viewer view s e u k x a' → team.CutsOff b viewer view t f v l y b' → Same (answer.Refused (refusal.Acquire x)) (answer.Refused (refusal.Acquire y))
   both_cut x y g h =
-      let both = over.cuts_alike DeskFollows levels_at (λ _. 0) (λ _. viewer) IsDeskRefusal cache_at queue_at (λ _. refl) (λ _. refl) stores_at follows_at asks_at tried_at acquires_at laws
+      let both = over.cuts_alike (desk_front viewer) cache_at queue_at (λ _. refl) stores_at follows_at asks_at tried_at acquires_at laws
       a a' b b' view s.picture t.picture x y m n g.cut h.cut alike.cache alike.queue refl (told_fail _ _ g.stores_are h.stores_are) in
       (ap (λ z. answer.Refused (refusal.Acquire z)) both.0, h.hidden ∙ sym g.hidden, (λ shown. absurd (untrue s.shown g.hidden shown)), record { cache = both.4; queue = both.5 }, both.6)
 
   not_painted_cut : (p : Painted) (y : AcquireErr) → team.Paints a viewer view s e u k p a' → team.CutsOff b viewer view t f v l y b' → ⊥
-  not_painted_cut p y g h = over.not_paints_cuts DeskFollows levels_at (λ _. 0) (λ _. viewer) IsDeskRefusal cache_at queue_at (λ _. refl) (λ _. refl) stores_at follows_at asks_at tried_at acquires_at laws
+  not_painted_cut p y g h = over.not_paints_cuts (desk_front viewer) cache_at queue_at (λ _. refl) stores_at follows_at asks_at tried_at acquires_at laws
       a a' b b' view s.picture t.picture y m n g.frame h.cut alike.cache refl (told_fail _ _ g.stores_are h.stores_are)
 
   not_cut_painted : (x : AcquireErr) (q : Painted) → team.CutsOff a viewer view s e u k x a' → team.Paints b viewer view t f v l q b' → ⊥
-  not_cut_painted x q g h = over.not_cuts_paints DeskFollows levels_at (λ _. 0) (λ _. viewer) IsDeskRefusal cache_at queue_at (λ _. refl) (λ _. refl) stores_at follows_at asks_at tried_at acquires_at laws
+  not_cut_painted x q g h = over.not_cuts_paints (desk_front viewer) cache_at queue_at (λ _. refl) stores_at follows_at asks_at tried_at acquires_at laws
       a a' b b' view s.picture t.picture x m n g.cut h.frame alike.cache refl (told_fail _ _ g.stores_are h.stores_are)
 
   both_lack : team.FindsNoLevel a viewer view s e u k a' → team.FindsNoLevel b viewer view t f v l b' → Same (answer.Refused refusal.Outside) (answer.Refused refusal.Outside)

@@ -19,7 +19,7 @@ ViewsAreAlike = (a b a' b' : Desk) (viewer : ℕ) (view : View) (s t : Shot) (e 
     → (q ≡ p) × (t.shown ≡ s.shown) × (IsTrue s.shown → t.picture ≡ s.picture) × DesksAreAlike a' b' × FailAlike m n
 
 -- Fetches of so many requests tell the same.
-abbrev pub FetchesAreAlike : Type 0
-FetchesAreAlike = (a b a' b' : Desk) (count : ℕ) (x y : List Served) (e f : List Event) (u v : List Asked) (k l m n : List StoreCall) (p q : Answer)
+abbrev pub FetchCommandsAreAlike : Type 0
+FetchCommandsAreAlike = (a b a' b' : Desk) (count : ℕ) (x y : List Served) (e f : List Event) (u v : List Asked) (k l m n : List StoreCall) (p q : Answer)
     → DesksAreAlike a b → IsFetched a count p x e u k a' → IsFetched b count q y f v l b' → FailAlike (k ++ m) (l ++ n)
     → (q ≡ p) × DesksAreAlike a' b' × FailAlike m n

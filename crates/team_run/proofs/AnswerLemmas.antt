@@ -25,51 +25,43 @@ use Rattle.scale_pick.specs.Wanted.{wanted_level}
 use Rattle.sole_cache.specs.Acquires.{GetsVoxel, SetsVoxel}
 use Rattle.sole_cache.specs.Cached.{Cached}
 use Rattle.sole_cache.specs.Moves.{Runs}
-use Rattle.sole_cache.specs.Pieces.{IsGet, IsSet, IsCellCaused}
+use Rattle.sole_cache.specs.Pieces.{IsCellCaused}
 use Rattle.view_script.specs.declared.command.Command.TheVariants as command
 use Rattle.volatile_cell.specs.Asked.{Asked}
-use Rattle.volatile_cell.proofs.Following.{follows_called}
-use Rattle.team_run.specs.Desk.{Desk, DeskLeads, DeskFollows, IsDeskRefusal, desk, levels_at}
+use Rattle.sole_eyes.proofs.Following.{follows_called}
+use Rattle.team_run.specs.Desk.{Desk, DeskLeads, DeskFollows, IsDeskRefusal, desk, levels_at, desk_front}
 use Rattle.team_run.specs.Fetches.{AreDeskServings, stores_of_all, fetch_answer}
-use Rattle.team_run.specs.Serve.{Answers, IsGot, IsPut, AsksGet, AsksSet, refusal_in}
+use Rattle.team_run.specs.Serve.{AnswersTask, IsGot, IsPutTask, refusal_in}
 use Rattle.team_run.specs.Trace.{Trace}
 use Rattle.team_run.specs.Views.{HasLevel, LacksLevel}
 use Rattle.team_run.proofs.EyesLemmas.{desk_on, desk_stays, desk_leads}
 use Rattle.team_run.proofs.Called.{get_called, set_called, servings_called}
 use Rattle.fetch_queue.specs.Queue.{Queue}
 
--- the refusals of a get and of a set
-pub got_refused : (a b : Cached) (level : ℕ) (pos : List ℕ) (err : CellErr) (events : List Event) → IsGet a level pos (Err err) events → IsCellCaused {X = ℕ} a b level pos (Err err)
-    → IsGot a level pos (answer.Refused (refusal_in err)) events b
-got_refused a b level pos cell_err.Outside events h cause = (h, cause)
-got_refused a b level pos (cell_err.TooLarge value) events h cause = (h, cause)
-got_refused a b level pos (cell_err.Acquire err) events h cause = (h, cause)
+-- a get and a set that are refused
+got_refused : (a b : Cached) (level : ℕ) (pos : List ℕ) (err : CellErr) (events : List Event) (stores : List StoreCall) → GetsVoxel a level pos (Err err) events stores b → IsCellCaused {X = ℕ} a b level pos (Err err)
+    → IsGot a level pos (answer.Refused (refusal_in err)) events stores b
+got_refused a b level pos cell_err.Outside events stores h cause = (h, cause)
+got_refused a b level pos (cell_err.TooLarge value) events stores h cause = (h, cause)
+got_refused a b level pos (cell_err.Acquire err) events stores h cause = (h, cause)
 
-pub put_refused : (a b : Cached) (level : ℕ) (pos : List ℕ) (x : ℕ) (err : CellErr) (events : List Event) → IsSet a level pos x (Err err) events → IsCellCaused {X = Unit {0}} a b level pos (Err err)
-    → IsPut a level pos x (answer.Refused (refusal_in err)) events b
-put_refused a b level pos x cell_err.Outside events h cause = (h, tt)
-put_refused a b level pos x (cell_err.TooLarge value) events h cause = (h, tt)
-put_refused a b level pos x (cell_err.Acquire err) events h cause = (h, cause)
+put_refused : (a b : Cached) (level : ℕ) (pos : List ℕ) (x : ℕ) (err : CellErr) (events : List Event) (stores : List StoreCall) → SetsVoxel a level pos x (Err err) events stores b → IsCellCaused {X = Unit {0}} a b level pos (Err err)
+    → IsPutTask a level pos x (answer.Refused (refusal_in err)) events stores b
+put_refused a b level pos x cell_err.Outside events stores h cause = (h, tt)
+put_refused a b level pos x (cell_err.TooLarge value) events stores h cause = (h, tt)
+put_refused a b level pos x (cell_err.Acquire err) events stores h cause = (h, cause)
 
--- what a get and a set that are refused ask of the stores
-asked_get : (a b : Cached) (level : ℕ) (pos : List ℕ) (err : CellErr) (stores : List StoreCall) → GetsVoxel a level pos (Err err) stores b → AsksGet a level pos (answer.Refused (refusal_in err)) stores b
-asked_get a b level pos cell_err.Outside stores asks = asks
-asked_get a b level pos (cell_err.TooLarge value) stores asks = asks
-asked_get a b level pos (cell_err.Acquire err) stores asks = asks
+pub get_refused : (a b : Cached) (level : ℕ) (pos : List ℕ) (err : CellErr) (told : Answer) → told ≡ answer.Refused (refusal_in err)
+    → (events : List Event) × (stores : List StoreCall) × GetsVoxel a level pos (Err err) events stores b × Runs a events b → IsCellCaused {X = ℕ} a b level pos (Err err)
+    → (events : List Event) × (stores : List StoreCall) × IsGot a level pos told events stores b × Runs a events b
+get_refused a b level pos err told is (events, stores, h, runs) cause =
+    (events, stores, subst (λ (t : Answer). IsGot a level pos t events stores b) (sym is) (got_refused a b level pos err events stores h cause), runs)
 
-asked_set : (a b : Cached) (level : ℕ) (pos : List ℕ) (x : ℕ) (err : CellErr) (stores : List StoreCall) → SetsVoxel a level pos x (Err err) stores b
-    → AsksSet a level pos x (answer.Refused (refusal_in err)) stores b
-asked_set a b level pos x cell_err.Outside stores asks = asks
-asked_set a b level pos x (cell_err.TooLarge value) stores asks = asks
-asked_set a b level pos x (cell_err.Acquire err) stores asks = asks
-
-pub get_refused_asks : (a b : Cached) (level : ℕ) (pos : List ℕ) (err : CellErr) (told : Answer) → told ≡ answer.Refused (refusal_in err) → (stores : List StoreCall) × GetsVoxel a level pos (Err err) stores b
-    → (stores : List StoreCall) × AsksGet a level pos told stores b
-get_refused_asks a b level pos err told is asks = (asks.0, subst (λ (t : Answer). AsksGet a level pos t asks.0 b) (sym is) (asked_get a b level pos err asks.0 asks.1))
-
-pub set_refused_asks : (a b : Cached) (level : ℕ) (pos : List ℕ) (x : ℕ) (err : CellErr) (told : Answer) → told ≡ answer.Refused (refusal_in err) → (stores : List StoreCall) × SetsVoxel a level pos x (Err err) stores b
-    → (stores : List StoreCall) × AsksSet a level pos x told stores b
-set_refused_asks a b level pos x err told is asks = (asks.0, subst (λ (t : Answer). AsksSet a level pos x t asks.0 b) (sym is) (asked_set a b level pos x err asks.0 asks.1))
+pub set_refused : (a b : Cached) (level : ℕ) (pos : List ℕ) (x : ℕ) (err : CellErr) (told : Answer) → told ≡ answer.Refused (refusal_in err)
+    → (events : List Event) × (stores : List StoreCall) × SetsVoxel a level pos x (Err err) events stores b × Runs a events b → IsCellCaused {X = Unit {0}} a b level pos (Err err)
+    → (events : List Event) × (stores : List StoreCall) × IsPutTask a level pos x told events stores b × Runs a events b
+set_refused a b level pos x err told is (events, stores, h, runs) cause =
+    (events, stores, subst (λ (t : Answer). IsPutTask a level pos x t events stores b) (sym is) (put_refused a b level pos x err events stores h cause), runs)
 
 -- events alone lead from a cache with its queue
 events_lead : (a b : Cached) (q : Queue) (events : List Event) → Runs a events b → DeskLeads (desk a q) events [] (desk b q)
@@ -78,30 +70,30 @@ events_lead a b q events runs = record { cache = record { moves = runs.moves; ta
 events_alone : List Event → List StoreCall → Trace
 events_alone events stores = record { events = events; calls = []; stores = stores; shots = []; servings = [] }
 
-pub get_answers : (a b : Cached) (q : Queue) (viewer level : ℕ) (pos : List ℕ) (told : Answer) → (events : List Event) × IsGot a level pos told events b × Runs a events b
-    → (stores : List StoreCall) × AsksGet a level pos told stores b → Answers (desk a q) viewer (command.Get level pos) told [] (desk b q)
+pub get_answers : (a b : Cached) (q : Queue) (viewer level : ℕ) (pos : List ℕ) (told : Answer) → (events : List Event) × (stores : List StoreCall) × IsGot a level pos told events stores b × Runs a events b
+    → AnswersTask (desk a q) viewer (command.Get level pos) told [] (desk b q)
 unfolding events_alone
-get_answers a b q viewer level pos told h asks = record {
-  trace = events_alone h.0 asks.0;
+get_answers a b q viewer level pos told (events, stores, h, runs) = record {
+  trace = events_alone events stores;
   shots_are = refl;
-  served = (h.1, asks.1, record { calls = refl; shots = refl; servings = refl });
-  leads = events_lead a b q h.0 h.2;
-  called = get_called a b level pos told asks.0 asks.1;
+  served = (h, record { calls = refl; shots = refl; servings = refl });
+  leads = events_lead a b q events runs;
+  called = get_called a b level pos told events stores h;
 }
 
-pub set_answers : (a b : Cached) (q : Queue) (viewer level : ℕ) (pos : List ℕ) (x : ℕ) (told : Answer) → (events : List Event) × IsPut a level pos x told events b × Runs a events b
-    → (stores : List StoreCall) × AsksSet a level pos x told stores b → Answers (desk a q) viewer (command.Set level pos x) told [] (desk b q)
+pub set_answers : (a b : Cached) (q : Queue) (viewer level : ℕ) (pos : List ℕ) (x : ℕ) (told : Answer) → (events : List Event) × (stores : List StoreCall) × IsPutTask a level pos x told events stores b × Runs a events b
+    → AnswersTask (desk a q) viewer (command.Set level pos x) told [] (desk b q)
 unfolding events_alone
-set_answers a b q viewer level pos x told h asks = record {
-  trace = events_alone h.0 asks.0;
+set_answers a b q viewer level pos x told (events, stores, h, runs) = record {
+  trace = events_alone events stores;
   shots_are = refl;
-  served = (h.1, asks.1, record { calls = refl; shots = refl; servings = refl });
-  leads = events_lead a b q h.0 h.2;
-  called = set_called a b level pos x told asks.0 asks.1;
+  served = (h, record { calls = refl; shots = refl; servings = refl });
+  leads = events_lead a b q events runs;
+  called = set_called a b level pos x told events stores h;
 }
 
 module _ (a b : Desk) (viewer : ℕ) (view : View) (shot : Shot) where
-  pub no_level_answers : LacksLevel (levels_at a) view → shot.shown ≡ false → Answers a viewer (command.View shot.name view) (answer.Refused refusal.Outside) (shot ∷ []) a
+  pub no_level_answers : LacksLevel (levels_at a) view → shot.shown ≡ false → AnswersTask a viewer (command.View shot.name view) (answer.Refused refusal.Outside) (shot ∷ []) a
   no_level_answers lacks hidden = record {
     trace = record { events = []; calls = []; stores = []; shots = shot ∷ []; servings = [] };
     shots_are = refl;
@@ -111,8 +103,8 @@ module _ (a b : Desk) (viewer : ℕ) (view : View) (shot : Shot) where
   }
 
   pub frame_answers : (painted : Painted) → HasLevel (levels_at a) view → shot.shown ≡ true → IsFilled shot.picture → painted ≡ painted_of (wanted_level (levels_at a) view) shot.picture
-      → (view.strategy ≡ Blocking → IsComplete (wanted_level (levels_at a) view) shot.picture) → IsFrame DeskFollows levels_at (λ _. 0) (λ _. viewer) a b view shot.picture
-      → Answers a viewer (command.View shot.name view) (answer.Frame painted) (shot ∷ []) b
+      → (view.strategy ≡ Blocking → IsComplete (wanted_level (levels_at a) view) shot.picture) → IsFrame (desk_front viewer) a b view shot.picture
+      → AnswersTask a viewer (command.View shot.name view) (answer.Frame painted) (shot ∷ []) b
   frame_answers painted exists shown filled told blocking frame = record {
     trace = record { events = frame.events; calls = frame.calls; stores = frame.led.cache.calls; shots = shot ∷ []; servings = [] };
     shots_are = refl;
@@ -121,8 +113,8 @@ module _ (a b : Desk) (viewer : ℕ) (view : View) (shot : Shot) where
     called = follows_called a.cache b.cache frame.events frame.led.cache.calls frame.led.cache.follows;
   }
 
-  pub cut_answers : (err : AcquireErr) → HasLevel (levels_at a) view → shot.shown ≡ false → IsCutOff DeskFollows levels_at (λ _. 0) (λ _. viewer) IsDeskRefusal a b view shot.picture err
-      → Answers a viewer (command.View shot.name view) (answer.Refused (refusal.Acquire err)) (shot ∷ []) b
+  pub cut_answers : (err : AcquireErr) → HasLevel (levels_at a) view → shot.shown ≡ false → IsCutOff (desk_front viewer) a b view shot.picture err
+      → AnswersTask a viewer (command.View shot.name view) (answer.Refused (refusal.Acquire err)) (shot ∷ []) b
   cut_answers err exists hidden cut = record {
     trace = record { events = cut.events ++ cut.piece; calls = cut.calls; stores = cut.led.cache.calls ++ cut.cause.calls; shots = shot ∷ []; servings = [] };
     shots_are = refl;
@@ -140,7 +132,7 @@ answer_as y count servings (Ok fetched) h = (Ok fetched, h, refl)
 answer_as y count servings (Err memory) h = (Err y, h, refl)
 
 pub fetch_answers : {X : Type 0} (a b : Desk) (viewer count : ℕ) (told : Answer) (result : Result Fetched X) (servings : List Served) (events : List Event) (calls : List Asked) → IsAnswer count servings result
-    → told ≡ fetch_answer result → DeskLeads a events calls b → AreDeskServings a servings events calls b → Answers a viewer (command.Fetch count) told [] b
+    → told ≡ fetch_answer result → DeskLeads a events calls b → AreDeskServings a servings events calls b → AnswersTask a viewer (command.Fetch count) told [] b
 fetch_answers a b viewer count told result servings events calls answered is leads are =
     let same = answer_as (tt {0}) count servings result answered in
     record {

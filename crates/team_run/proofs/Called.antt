@@ -16,44 +16,44 @@ use Rattle.store_calls.specs.Calls.{StoreCall, AreCalled}
 use Rattle.store_calls.proofs.Composed.{called_on}
 use Rattle.view_script.specs.Script.{NumberedCommand}
 use Rattle.volatile_cell.specs.Asked.{Asked}
-use Rattle.volatile_cell.proofs.Following.{follows_called, follows_nothing}
+use Rattle.sole_eyes.proofs.Following.{follows_called, follows_nothing}
 use Rattle.team_run.specs.Desk.{Desk}
 use Rattle.team_run.specs.Fetches.{IsDeskServing, AreDeskServings, stores_of, stores_of_all}
-use Rattle.team_run.specs.Serve.{AsksGet, AsksSet, ServesAll, cell_err_of}
+use Rattle.team_run.specs.Serve.{IsGot, IsPutTask, ServesTasks, cell_err_of}
 use Rattle.team_run.specs.Trace.{Trace}
 
-visits_called : (c d : Cached) (cell : ℕ) (then : List Event) (calls : List StoreCall) → Visits c cell then calls d → AreCalled calls c.shown d.shown
-visits_called c d cell then calls visits = subst (λ (s : List Contents). AreCalled calls c.shown s) (sym visits.ended.shown) visits.acquired.called
+visits_called : (c d : Cached) (cell : ℕ) (then events : List Event) (calls : List StoreCall) → Visits c cell then events calls d → AreCalled calls c.shown d.shown
+visits_called c d cell then events calls visits = subst (λ (s : List Contents). AreCalled calls c.shown s) (sym visits.ended.shown) visits.acquired.called
 
-nothing_called : (c d : Cached) (calls : List StoreCall) → IsNothing c calls d → AreCalled calls c.shown d.shown
-nothing_called c d calls (none, same) = subst (λ (k : List StoreCall). AreCalled k c.shown d.shown) (sym none) (ap (λ (e : Cached). e.shown) same)
+nothing_called : (c d : Cached) (events : List Event) (calls : List StoreCall) → IsNothing c events calls d → AreCalled calls c.shown d.shown
+nothing_called c d events calls (no_events, none, same) = subst (λ (k : List StoreCall). AreCalled k c.shown d.shown) (sym none) (ap (λ (e : Cached). e.shown) same)
 
-gets_called : (c d : Cached) (level : ℕ) (pos : List ℕ) (result : Result ℕ CellErr) (calls : List StoreCall) → GetsVoxel c level pos result calls d → AreCalled calls c.shown d.shown
-gets_called c d level pos (Ok x) calls (cell, at, voxel, visits) = visits_called c d cell _ calls visits
-gets_called c d level pos (Err cell_err.Outside) calls (outside, nothing) = nothing_called c d calls nothing
-gets_called c d level pos (Err (cell_err.TooLarge value)) calls asks = absurd asks
-gets_called c d level pos (Err (cell_err.Acquire err)) calls (cell, at, voxel, refused) = refused.1.called
+gets_called : (c d : Cached) (level : ℕ) (pos : List ℕ) (result : Result ℕ CellErr) (events : List Event) (calls : List StoreCall) → GetsVoxel c level pos result events calls d → AreCalled calls c.shown d.shown
+gets_called c d level pos (Ok x) events calls (cell, at, voxel, visits) = visits_called c d cell _ events calls visits
+gets_called c d level pos (Err cell_err.Outside) events calls (outside, nothing) = nothing_called c d events calls nothing
+gets_called c d level pos (Err (cell_err.TooLarge value)) events calls asks = absurd asks
+gets_called c d level pos (Err (cell_err.Acquire err)) events calls (cell, at, voxel, refused) = refused.called
 
-sets_called : (c d : Cached) (level : ℕ) (pos : List ℕ) (x : ℕ) (result : Result (Unit {0}) CellErr) (calls : List StoreCall) → SetsVoxel c level pos x result calls d → AreCalled calls c.shown d.shown
-sets_called c d level pos x (Ok done) calls (cell, at, voxel, small, visits) = visits_called c d cell _ calls visits
-sets_called c d level pos x (Err cell_err.Outside) calls (outside, nothing) = nothing_called c d calls nothing
-sets_called c d level pos x (Err (cell_err.TooLarge value)) calls (same, cell, at, voxel, large, nothing) = nothing_called c d calls nothing
-sets_called c d level pos x (Err (cell_err.Acquire err)) calls (cell, at, voxel, small, refused) = refused.1.called
+sets_called : (c d : Cached) (level : ℕ) (pos : List ℕ) (x : ℕ) (result : Result (Unit {0}) CellErr) (events : List Event) (calls : List StoreCall) → SetsVoxel c level pos x result events calls d → AreCalled calls c.shown d.shown
+sets_called c d level pos x (Ok done) events calls (cell, at, voxel, small, visits) = visits_called c d cell _ events calls visits
+sets_called c d level pos x (Err cell_err.Outside) events calls (outside, nothing) = nothing_called c d events calls nothing
+sets_called c d level pos x (Err (cell_err.TooLarge value)) events calls (same, cell, at, voxel, large, nothing) = nothing_called c d events calls nothing
+sets_called c d level pos x (Err (cell_err.Acquire err)) events calls (cell, at, voxel, small, refused) = refused.called
 
 -- a get and a set
-pub get_called : (c d : Cached) (level : ℕ) (pos : List ℕ) (told : Answer) (stores : List StoreCall) → AsksGet c level pos told stores d → AreCalled stores c.shown d.shown
-get_called c d level pos (answer.Value x) stores asks = gets_called c d level pos (Ok x) stores asks
-get_called c d level pos answer.Done stores asks = absurd asks
-get_called c d level pos (answer.Frame painted) stores asks = absurd asks
-get_called c d level pos (answer.Fetched loaded held refused) stores asks = absurd asks
-get_called c d level pos (answer.Refused why) stores asks = gets_called c d level pos (Err (cell_err_of why)) stores asks
+pub get_called : (c d : Cached) (level : ℕ) (pos : List ℕ) (told : Answer) (events : List Event) (stores : List StoreCall) → IsGot c level pos told events stores d → AreCalled stores c.shown d.shown
+get_called c d level pos (answer.Value x) events stores asks = gets_called c d level pos (Ok x) events stores asks
+get_called c d level pos answer.Done events stores asks = absurd asks
+get_called c d level pos (answer.Frame painted) events stores asks = absurd asks
+get_called c d level pos (answer.Fetched loaded held refused) events stores asks = absurd asks
+get_called c d level pos (answer.Refused why) events stores asks = gets_called c d level pos (Err (cell_err_of why)) events stores asks.0
 
-pub set_called : (c d : Cached) (level : ℕ) (pos : List ℕ) (x : ℕ) (told : Answer) (stores : List StoreCall) → AsksSet c level pos x told stores d → AreCalled stores c.shown d.shown
-set_called c d level pos x (answer.Value y) stores asks = absurd asks
-set_called c d level pos x answer.Done stores asks = sets_called c d level pos x (Ok (tt {0})) stores asks
-set_called c d level pos x (answer.Frame painted) stores asks = absurd asks
-set_called c d level pos x (answer.Fetched loaded held refused) stores asks = absurd asks
-set_called c d level pos x (answer.Refused why) stores asks = sets_called c d level pos x (Err (cell_err_of why)) stores asks
+pub set_called : (c d : Cached) (level : ℕ) (pos : List ℕ) (x : ℕ) (told : Answer) (events : List Event) (stores : List StoreCall) → IsPutTask c level pos x told events stores d → AreCalled stores c.shown d.shown
+set_called c d level pos x (answer.Value y) events stores asks = absurd asks
+set_called c d level pos x answer.Done events stores asks = sets_called c d level pos x (Ok (tt {0})) events stores asks
+set_called c d level pos x (answer.Frame painted) events stores asks = absurd asks
+set_called c d level pos x (answer.Fetched loaded held refused) events stores asks = absurd asks
+set_called c d level pos x (answer.Refused why) events stores asks = sets_called c d level pos x (Err (cell_err_of why)) events stores asks.0
 
 -- servings one after another; before a refused one nothing was asked of a store
 serving_called : (a b : Desk) (s : Served) (events : List Event) (calls : List Asked) (is : IsDeskServing a s events calls b) → AreCalled (stores_of a b s events calls is) a.cache.shown b.cache.shown
@@ -71,7 +71,7 @@ servings_called a b (s ∷ servings) events calls (mid, first, rest, asked, more
     called_on a.cache.shown mid.cache.shown b.cache.shown (stores_of a mid s first asked one) (stores_of_all mid b servings rest more others) (serving_called a mid s first asked one) (servings_called mid b servings rest more others)
 
 -- all commands of a run
-pub serves_called : (a d : Desk) (commands : List NumberedCommand) (replies : List Reply) (trace : Trace) → ServesAll a commands replies trace d → AreCalled trace.stores a.cache.shown d.cache.shown
+pub serves_called : (a d : Desk) (commands : List NumberedCommand) (replies : List Reply) (trace : Trace) → ServesTasks a commands replies trace d → AreCalled trace.stores a.cache.shown d.cache.shown
 serves_called a d [] [] trace served = subst (λ (t : Trace). AreCalled t.stores a.cache.shown d.cache.shown) (sym served.0) (ap (λ (x : Desk). x.cache.shown) served.1)
 serves_called a d (c ∷ commands) (r ∷ replies) trace (mid, first, rest, split, one, others) =
     subst (λ (t : Trace). AreCalled t.stores a.cache.shown d.cache.shown) (sym split)

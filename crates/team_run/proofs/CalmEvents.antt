@@ -21,10 +21,11 @@ use Rattle.scale_pick.specs.declared.note.Note.TheVariants as note
 use Rattle.scale_pick.specs.declared.view.View.{View}
 use Rattle.scale_pick.specs.Picture.{Pixels}
 use Rattle.volatile_cell.specs.Asked.{Asked}
-use Rattle.volatile_cell.specs.Pieces.{misses, IsTurnOut, IsGranted, IsRefused, IsDropped, IsHeldUp}
+use Rattle.call_events.specs.Pieces.{misses, IsTurnOut, IsGranted, IsRefused, IsDropped, IsHeldUp}
 use Rattle.team_run.specs.Desk.{Desk}
 use Rattle.team_run.specs.Fetches.{IsDeskServing, AreDeskServings}
 use Rattle.team_run.proofs.Unwritten.{Unwritten}
+use Rattle.sole_eyes.specs.SoleEyes.{sole}
 
 abbrev is_calm : Event → Bool
 is_calm (event.Write k c i x) = false
@@ -92,20 +93,20 @@ turn_calm turn more (inl none) h = subst (λ t. AreCalm (t ++ more)) (sym none) 
 turn_calm turn more (inr (v, saved, is)) h = subst (λ t. AreCalm (t ++ more)) (sym is) h
 
 -- the pieces of acquires
-pub granted_calm : (cell : ℕ) (loaded : Bool) (events : List Event) → IsGranted 0 cell loaded events → AreCalm events
+pub granted_calm : (cell : ℕ) (loaded : Bool) (events : List Event) → IsGranted true 0 cell loaded events → AreCalm events
 granted_calm cell false events (n, few, is) = subst AreCalm (sym is) (both_calm (misses 0 cell n) (event.Pin 0 cell ∷ []) (misses_calm cell n) refl)
 granted_calm cell true events (n, few, slot, turn, out, is) = subst AreCalm (sym is)
     (both_calm (misses 0 cell (suc n)) (event.Claim 0 cell ∷ (turn ++ event.Live 0 cell slot ∷ [])) (misses_calm cell (suc n)) (turn_calm turn (event.Live 0 cell slot ∷ []) out refl))
 
-dropped_calm : (cell : ℕ) (events : List Event) → IsDropped 0 cell events → AreCalm events
+dropped_calm : (cell : ℕ) (events : List Event) → IsDropped true 0 cell events → AreCalm events
 dropped_calm cell events (n, few, turn, out, is) = subst AreCalm (sym is)
     (both_calm (misses 0 cell (suc n)) (event.Claim 0 cell ∷ (turn ++ event.Drop 0 cell ∷ [])) (misses_calm cell (suc n)) (turn_calm turn (event.Drop 0 cell ∷ []) out refl))
 
-held_up_calm : (cell : ℕ) (events : List Event) → IsHeldUp 0 cell events → AreCalm events
+held_up_calm : (cell : ℕ) (events : List Event) → IsHeldUp true 0 cell events → AreCalm events
 held_up_calm cell events (n, few, v, is) = subst AreCalm (sym is)
     (both_calm (misses 0 cell (suc n)) (event.Claim 0 cell ∷ event.Close 0 v ∷ event.Back 0 v ∷ event.Drop 0 cell ∷ []) (misses_calm cell (suc n)) refl)
 
-pub refused_calm : (cell : ℕ) (err : AcquireErr) (events : List Event) → IsRefused 0 cell err events → AreCalm events
+pub refused_calm : (cell : ℕ) (err : AcquireErr) (events : List Event) → IsRefused true 0 cell err events → AreCalm events
 refused_calm cell refusal.ReadFault events h = dropped_calm cell events h
 refused_calm cell refusal.WriteFault events h = held_up_calm cell events h
 refused_calm cell (refusal.Malformed edited err) events h = dropped_calm cell events h
@@ -118,31 +119,31 @@ back_calm : (held : Option ℕ) → AreCalm (given_back 0 held)
 back_calm None = refl
 back_calm (Some cell) = refl
 
-ready_calm : (X Y : Type 0) (loads : Bool) (cell : ℕ) (loaded : Bool) (piece : List Event) → MatchBool loads (IsGranted 0 cell loaded piece × X) ((loaded ≡ false) × (piece ≡ event.Pin 0 cell ∷ []) × Y) → AreCalm piece
+ready_calm : (X Y : Type 0) (loads : Bool) (cell : ℕ) (loaded : Bool) (piece : List Event) → MatchBool loads (IsGranted true 0 cell loaded piece × X) ((loaded ≡ false) × (piece ≡ event.Pin 0 cell ∷ []) × Y) → AreCalm piece
 ready_calm X Y true cell loaded piece h = granted_calm cell loaded piece h.0
 ready_calm X Y false cell loaded piece h = subst AreCalm (sym h.1) refl
 
 module _ (viewer : ℕ) (levels : List Level) where
-  found_calm : (s : Sight) (level cell : ℕ) (ready : Bool) (s' : Sight) (events : List Event) (calls : List Asked) → Finds 0 viewer levels s level cell ready s' events calls → AreCalm events
+  found_calm : (s : Sight) (level cell : ℕ) (ready : Bool) (s' : Sight) (events : List Event) (calls : List Asked) → Finds (sole viewer levels) s level cell ready s' events calls → AreCalm events
   found_calm s level cell true s' events calls (inl idle) = subst AreCalm (sym idle.1.none) refl
   found_calm s level cell true s' events calls (inr look) = subst AreCalm (sym look.events_are) (both_calm (given_back 0 s.held) look.piece (back_calm s.held) (ready_calm _ _ _ cell look.loaded look.piece look.look.pinned))
   found_calm s level cell false s' events calls (inl idle) = subst AreCalm (sym idle.2.none) refl
   found_calm s level cell false s' events calls (inr look) = subst AreCalm (sym look.events_are) (both_calm (given_back 0 s.held) look.piece (back_calm s.held) (subst AreCalm (sym look.look.missed) refl))
 
-  visit_calm : (s : Sight) (level : ℕ) (seen : Note) (s' : Sight) (events : List Event) (calls : List Asked) → IsVisit 0 viewer levels s level seen s' events calls → AreCalm events
+  visit_calm : (s : Sight) (level : ℕ) (seen : Note) (s' : Sight) (events : List Event) (calls : List Asked) → IsVisit (sole viewer levels) s level seen s' events calls → AreCalm events
   visit_calm s level (note.Read cell at x) s' events calls (found, finds, is) = subst AreCalm (sym is) (both_calm found (event.Read 0 cell at x ∷ []) (found_calm s level cell true s' found calls finds) refl)
   visit_calm s level (note.NotReady cell) s' events calls finds = found_calm s level cell false s' events calls finds
 
-  visits_calm : (s : Sight) (visits : List Visit) (s' : Sight) (events : List Event) (calls : List Asked) → AreVisits 0 viewer levels s visits s' events calls → AreCalm events
+  visits_calm : (s : Sight) (visits : List Visit) (s' : Sight) (events : List Event) (calls : List Asked) → AreVisits (sole viewer levels) s visits s' events calls → AreCalm events
   visits_calm s [] s' events calls idle = subst AreCalm (sym idle.none) refl
   visits_calm s (v ∷ visits) s' events calls (t, first, rest, asked, more, one, others, split, asks) =
       subst AreCalm (sym split) (both_calm first rest (visit_calm s v.level v.note t first asked one) (visits_calm t visits s' rest more others))
 
   -- frames, whole or up to a refused look
-  pub frame_calm : (view : View) (picture : Pixels) (events : List Event) → IsVisited 0 viewer levels view picture events → AreCalm events
+  pub frame_calm : (view : View) (picture : Pixels) (events : List Event) → IsVisited (sole viewer levels) view picture events → AreCalm events
   frame_calm view picture events v = subst AreCalm (sym v.events_are) (both_calm v.looks (given_back 0 v.last.held) (visits_calm _ v.visits v.last v.looks v.calls v.are) (back_calm v.last.held))
 
-  pub cut_calm : (view : View) (picture : Pixels) (cell : ℕ) (events : List Event) → IsVisitedTo 0 viewer levels view picture cell events → AreCalm events
+  pub cut_calm : (view : View) (picture : Pixels) (cell : ℕ) (events : List Event) → IsVisitedTo (sole viewer levels) view picture cell events → AreCalm events
   cut_calm view picture cell events v = subst AreCalm (sym v.events_are) (both_calm v.looks (given_back 0 v.last.held) (visits_calm _ v.visits v.last v.looks v.calls v.are) (back_calm v.last.held))
 
 serving_calm : (a b : Desk) (s : Served) (events : List Event) (calls : List Asked) → IsDeskServing a s events calls b → AreCalm events

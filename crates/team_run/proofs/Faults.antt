@@ -33,8 +33,8 @@ use Rattle.view_script.specs.Script.{NumberedCommand}
 use Rattle.volatile_cell.specs.Asked.{Asked}
 use Rattle.team_run.specs.Desk.{Desk, DeskLeads}
 use Rattle.team_run.specs.Fetches.{IsDeskServing, AreDeskServings, fetch_answer}
-use Rattle.team_run.specs.Run.{is_fault, is_fault_of, is_fault_served, fault_replies, fault_servings}
-use Rattle.team_run.specs.Serve.{IsGot, IsPut, IsServed, ServesAll}
+use Rattle.team_run.specs.Faults.{is_fault, is_fault_of, is_fault_served, fault_replies, fault_servings}
+use Rattle.team_run.specs.Serve.{IsGot, IsPutTask, IsServed, ServesTasks}
 use Rattle.team_run.specs.Trace.{Trace}
 use Rattle.team_run.specs.Views.{IsViewed}
 use Rattle.team_run.proofs.EyesLemmas.{desk_on, desk_stays, desk_leads}
@@ -96,23 +96,23 @@ servings_license a b (s ∷ servings) events calls (mid, first, rest, asked, mor
     both_license a mid b rest more _ _ _ after (serving_licenses a mid s first asked one) (servings_license mid b servings rest more others after) (one_of is_fault_served s servings)
 
 -- what a get, a set and a view answer
-get_licenses : (a b : Cached) (level : ℕ) (pos : List ℕ) (told : Answer) (events : List Event) → IsGot a level pos told events b → StoresMove a events b → Licenses a.shown (one_if (is_fault told)) b.shown
-get_licenses a b level pos (answer.Value x) events h moves = none_failed a b events moves
-get_licenses a b level pos answer.Done events h moves = absurd h
-get_licenses a b level pos (answer.Frame painted) events h moves = absurd h
-get_licenses a b level pos (answer.Fetched loaded held refused) events h moves = absurd h
-get_licenses a b level pos (answer.Refused refusal.Outside) events h moves = none_failed a b events moves
-get_licenses a b level pos (answer.Refused (refusal.TooLarge value)) events h moves = none_failed a b events moves
-get_licenses a b level pos (answer.Refused (refusal.Acquire err)) events (piece, (cell, (at, (voxel, caused)))) moves = acquire_licenses a b cell err events caused moves
+get_licenses : (a b : Cached) (level : ℕ) (pos : List ℕ) (told : Answer) (events : List Event) (stores : List StoreCall) → IsGot a level pos told events stores b → StoresMove a events b → Licenses a.shown (one_if (is_fault told)) b.shown
+get_licenses a b level pos (answer.Value x) events stores h moves = none_failed a b events moves
+get_licenses a b level pos answer.Done events stores h moves = absurd h
+get_licenses a b level pos (answer.Frame painted) events stores h moves = absurd h
+get_licenses a b level pos (answer.Fetched loaded held refused) events stores h moves = absurd h
+get_licenses a b level pos (answer.Refused refusal.Outside) events stores h moves = none_failed a b events moves
+get_licenses a b level pos (answer.Refused (refusal.TooLarge value)) events stores h moves = none_failed a b events moves
+get_licenses a b level pos (answer.Refused (refusal.Acquire err)) events stores (piece, (cell, (at, (voxel, caused)))) moves = acquire_licenses a b cell err events caused moves
 
-set_licenses : (a b : Cached) (level : ℕ) (pos : List ℕ) (x : ℕ) (told : Answer) (events : List Event) → IsPut a level pos x told events b → StoresMove a events b → Licenses a.shown (one_if (is_fault told)) b.shown
-set_licenses a b level pos x (answer.Value y) events h moves = absurd h
-set_licenses a b level pos x answer.Done events h moves = none_failed a b events moves
-set_licenses a b level pos x (answer.Frame painted) events h moves = absurd h
-set_licenses a b level pos x (answer.Fetched loaded held refused) events h moves = absurd h
-set_licenses a b level pos x (answer.Refused refusal.Outside) events h moves = none_failed a b events moves
-set_licenses a b level pos x (answer.Refused (refusal.TooLarge value)) events h moves = none_failed a b events moves
-set_licenses a b level pos x (answer.Refused (refusal.Acquire err)) events (piece, (cell, (at, (voxel, caused)))) moves = acquire_licenses a b cell err events caused moves
+set_licenses : (a b : Cached) (level : ℕ) (pos : List ℕ) (x : ℕ) (told : Answer) (events : List Event) (stores : List StoreCall) → IsPutTask a level pos x told events stores b → StoresMove a events b → Licenses a.shown (one_if (is_fault told)) b.shown
+set_licenses a b level pos x (answer.Value y) events stores h moves = absurd h
+set_licenses a b level pos x answer.Done events stores h moves = none_failed a b events moves
+set_licenses a b level pos x (answer.Frame painted) events stores h moves = absurd h
+set_licenses a b level pos x (answer.Fetched loaded held refused) events stores h moves = absurd h
+set_licenses a b level pos x (answer.Refused refusal.Outside) events stores h moves = none_failed a b events moves
+set_licenses a b level pos x (answer.Refused (refusal.TooLarge value)) events stores h moves = none_failed a b events moves
+set_licenses a b level pos x (answer.Refused (refusal.Acquire err)) events stores (piece, (cell, (at, (voxel, caused)))) moves = acquire_licenses a b cell err events caused moves
 
 view_licenses : (a b : Desk) (viewer : ℕ) (view : View) (shot : Shot) (events : List Event) (calls : List Asked) (stores : List StoreCall) (told : Answer) → IsViewed a viewer view shot events calls stores told b → StoresMove a.cache events b.cache
     → Licenses a.cache.shown (one_if (is_fault told)) b.cache.shown
@@ -141,14 +141,14 @@ fetched_faults (Err memory) = refl
 
 command_licenses : (a b : Desk) (viewer : ℕ) (command : Command) (told : Answer) (t : Trace) → IsServed a viewer command told t b → DeskLeads a t.events t.calls b
     → Licenses a.cache.shown (faults_of told t.servings) b.cache.shown
-command_licenses a b viewer (command.Get level pos) told t (got, asks, alone) leads = no_servings a b told t.servings alone.servings (get_licenses a.cache b.cache level pos told t.events got leads.cache.moves.stores)
-command_licenses a b viewer (command.Set level pos x) told t (put, asks, alone) leads = no_servings a b told t.servings alone.servings (set_licenses a.cache b.cache level pos x told t.events put leads.cache.moves.stores)
+command_licenses a b viewer (command.Get level pos) told t (got, alone) leads = no_servings a b told t.servings alone.servings (get_licenses a.cache b.cache level pos told t.events t.stores got leads.cache.moves.stores)
+command_licenses a b viewer (command.Set level pos x) told t (put, alone) leads = no_servings a b told t.servings alone.servings (set_licenses a.cache b.cache level pos x told t.events t.stores put leads.cache.moves.stores)
 command_licenses a b viewer (command.View name view) told t (shot, one, none, same, viewed) leads = no_servings a b told t.servings none (view_licenses a b viewer view shot t.events t.calls t.stores told viewed leads.cache.moves.stores)
 command_licenses a b viewer (command.Fetch count) told t (none, fetched) leads =
     let quiet : one_if (is_fault told) + fault_servings t.servings ≡ fault_servings t.servings = omega (arith, ap one_if (ap is_fault fetched.told_is ∙ fetched_faults fetched.result)) in
     subst (λ n. Licenses a.cache.shown n b.cache.shown) (sym quiet) (servings_license a b t.servings t.events t.calls fetched.are leads)
 
-pub serves_license : (a d : Desk) (commands : List NumberedCommand) (replies : List Reply) (trace : Trace) → ServesAll a commands replies trace d
+pub serves_license : (a d : Desk) (commands : List NumberedCommand) (replies : List Reply) (trace : Trace) → ServesTasks a commands replies trace d
     → Licenses a.cache.shown (fault_replies replies + fault_servings trace.servings) d.cache.shown
 serves_license a d [] [] trace served =
     let leads = serves_lead a d [] [] trace served in

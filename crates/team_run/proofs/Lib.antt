@@ -1,6 +1,7 @@
 pub mod EyesLemmas
 pub mod Called
 pub mod AnswerLemmas
+pub mod NotFull
 pub mod ServeLemmas
 pub mod PlanLemmas
 pub mod VolumeLemmas
@@ -11,3 +12,5 @@ pub mod Faults
 pub mod PlainFrames
 pub mod PlainRuns
 pub mod Completed
+pub mod Headlines
+pub mod CommandsOf

@@ -15,7 +15,6 @@ use Rattle.scale_pick.specs.Notes.{notes_of}
 use Rattle.scale_pick.specs.Painted.{painted_of, IsComplete}
 use Rattle.scale_pick.specs.Painting.{Shows, IsPainted, IsPainting}
 use Rattle.scale_pick.specs.Picture.{Pixels, IsFilled, place}
-use Rattle.scale_pick.specs.Shade.{shown}
 use Rattle.scale_pick.specs.Wanted.{covers, wanted_level, best_level}
 use Rattle.scale_pick.proofs.MomentLemmas.{shows_moment}
 use Rattle.scale_pick.proofs.PaintedLemmas.{complete_is}
@@ -53,13 +52,15 @@ module _ (b : Shape) (a : Cached) (levels : List Level) (view : View) (events : 
       go (inr (cell, at, number, voxel, had, shade)) = inr (
         cell,
         at,
+        number,
         voxel,
         λ told.
             let range = (one_to_one levels).in_range level voxel.coordinates cell at voxel.voxel in
             let before = calm_unwritten had.before (calm_before had.before had.rest (subst AreCalm had.split calm)) (state_of a) in
             let inside = subst (λ n. cell < n) (sym shape.cells) (subst (λ (l : List Level). cell < (shape_of (record a { levels = l })).cells) (sym is) range.0) in
             let few = subst (λ n. at < n) (sym (shape.voxels cell)) (subst (λ (l : List Level). at < (shape_of (record a { levels = l })).voxels cell) (sym is) range.1) in
-            shade ∙ ap (λ n. shown n view.low view.high) (had.had (subst IsTrue (shape.told cell) told) ∙ ap (λ f. f cell at) before ∙ sym (same cell inside told at few)),
+            had.had (subst IsTrue (shape.told cell) told) ∙ ap (λ f. f cell at) before ∙ sym (same cell inside told at few),
+        shade,
       )
 
   painted_plain : (wanted x y value mask : ℕ) → IsPainted levels view (notes_of view.strategy events) wanted x y value mask → ShowsPlain levels b.is_told arrays view x y mask value ⊎ ((mask ≡ 255) × (value ≡ 0))

@@ -31,12 +31,12 @@ use Rattle.view_script.specs.Script.{NumberedCommand}
 use Rattle.team_run.specs.Plain.{AreSame, ArePlain, PlainStep}
 use Rattle.team_run.specs.Desk.{Desk, levels_at}
 use Rattle.team_run.specs.Fetches.{fetch_answer}
-use Rattle.team_run.specs.Serve.{IsGot, IsPut, IsServed, ServesAll}
+use Rattle.team_run.specs.Serve.{IsGot, IsPutTask, IsServed, ServesTasks}
 use Rattle.team_run.specs.Trace.{Trace}
 use Rattle.team_run.specs.Views.{HasLevel, IsViewed}
 use Rattle.team_run.proofs.CalmEvents.{AreCalm, both_calm, calm_unwritten, frame_calm, cut_calm, refused_calm, servings_calm}
 use Rattle.team_run.proofs.PlainFrames.{plain_frame}
-use Rattle.team_run.proofs.Unwritten.{Unwritten, after-append, legal_behind, granted_unwritten, refused_unwritten}
+use Rattle.team_run.proofs.Unwritten.{Unwritten, after-append, legal_behind, acquire_unwritten}
 
 -- arrays that were the same stay so where nothing is written
 pub same_kept : (b : Shape) (a d : Cached) (events : List Event) (arrays : ℕ → ℕ → ℕ) → IsSameShape b (shape_of a) → AreSame b (state_of a).arrays arrays → Unwritten events
@@ -65,20 +65,22 @@ module _ (b : Shape) (levels : List Level) (a d : Desk) (arrays : ℕ → ℕ �
   voxel_in : (level : ℕ) (pos : List ℕ) (cell at : ℕ) → IsVoxelOf (levels_at a) level pos cell at → IsVoxelOf levels level pos cell at
   voxel_in level pos cell at voxel = subst (λ l. IsVoxelOf l level pos cell at) is voxel
 
-  got_plain : (level : ℕ) (pos : List ℕ) (x : ℕ) (events : List Event) (shots : List Shot) → IsGot a.cache level pos (answer.Value x) events d.cache → LeadTo (shape_of a.cache) (state_of a.cache) events (state_of d.cache)
+  got_plain : (level : ℕ) (pos : List ℕ) (x : ℕ) (events : List Event) (stores : List StoreCall) (shots : List Shot) → shots ≡ [] → IsGot a.cache level pos (answer.Value x) events stores d.cache → LeadTo (shape_of a.cache) (state_of a.cache) events (state_of d.cache)
       → Steps (command.Get level pos) (answer.Value x) shots
-  got_plain level pos x events shots (cell, (at, (voxel, (h, (piece, (granted, split)))))) led =
-      let quiet : Unwritten piece = granted_unwritten a.cache cell h piece granted in
+  got_plain level pos x events stores shots none (cell, at, voxel, visits) led =
+      let piece = visits.piece in let split = visits.events_are in
+      let quiet : Unwritten piece = acquire_unwritten a.cache cell (Ok visits.handle) piece stores visits.acquired.is in
       let read = (legal_behind (shape_of a.cache) (state_of a.cache) piece (event.Read 0 cell at x ∷ event.Unpin 0 cell ∷ []) (subst (AreLegal (shape_of a.cache) (state_of a.cache)) split led.legal)).0 in
       let unwritten : Unwritten events = λ s. subst (λ e. (after s e).arrays ≡ s.arrays) (sym split) (ap (λ t. t.arrays) (after-append s piece (event.Read 0 cell at x ∷ event.Unpin 0 cell ∷ [])) ∙ quiet s) in
       let seen : IsTrue (b.is_told cell) → x ≡ arrays cell at = λ told. read.4 (subst IsTrue (shape.told cell) told) ∙ ap (λ f. f cell at) (quiet (state_of a.cache))
       ∙ sym (same cell (subst (λ n. cell < n) (sym shape.cells) read.0) told at (subst (λ n. at < n) (sym (shape.voxels cell)) read.1)) in
-      (arrays, ((cell, (at, (voxel_in level pos cell at voxel, (seen, refl)))), same_kept b a.cache d.cache events arrays shape same unwritten led))
+      (arrays, ((none, cell, at, voxel_in level pos cell at voxel, seen, refl), same_kept b a.cache d.cache events arrays shape same unwritten led))
 
-  set_plain : (level : ℕ) (pos : List ℕ) (x : ℕ) (events : List Event) (shots : List Shot) → IsPut a.cache level pos x answer.Done events d.cache → LeadTo (shape_of a.cache) (state_of a.cache) events (state_of d.cache)
+  set_plain : (level : ℕ) (pos : List ℕ) (x : ℕ) (events : List Event) (stores : List StoreCall) (shots : List Shot) → shots ≡ [] → IsPutTask a.cache level pos x answer.Done events stores d.cache → LeadTo (shape_of a.cache) (state_of a.cache) events (state_of d.cache)
       → Steps (command.Set level pos x) answer.Done shots
-  set_plain level pos x events shots (cell, (at, (voxel, (small, (h, (piece, (granted, split))))))) led =
-      let quiet : Unwritten piece = granted_unwritten a.cache cell h piece granted in
+  set_plain level pos x events stores shots none (cell, at, voxel, small, visits) led =
+      let piece = visits.piece in let split = visits.events_are in
+      let quiet : Unwritten piece = acquire_unwritten a.cache cell (Ok visits.handle) piece stores visits.acquired.is in
       let tail = event.Mark 0 cell ∷ event.Write 0 cell at x ∷ event.Unpin 0 cell ∷ [] in
       let before = (state_of a.cache).arrays in
       let written : (after (state_of a.cache) events).arrays ≡ with_at before cell (with_at (before cell) at x) =
@@ -87,7 +89,7 @@ module _ (b : Shape) (levels : List Level) (a d : Desk) (arrays : ℕ → ℕ �
       let now = with_at arrays cell (with_at (arrays cell) at x) in
       let agree : AreSame b (state_of d.cache).arrays now = λ c inside told i few. same_written b before arrays cell at x same c inside told i few ∙ ap (λ f. f c i) (sym written)
       ∙ led.reached.arrays c (subst (λ n. c < n) shape.cells inside) (subst IsTrue (shape.told c) told) i (subst (λ n. i < n) (shape.voxels c) few) in
-      (now, ((cell, (at, (voxel_in level pos cell at voxel, refl))), agree))
+      (now, ((none, cell, at, voxel_in level pos cell at voxel, refl), agree))
 
   -- a command that wrote nothing
   quiet_plain : (events : List Event) → Unwritten events → LeadTo (shape_of a.cache) (state_of a.cache) events (state_of d.cache) → AreSame b (state_of d.cache).arrays arrays
@@ -96,57 +98,57 @@ module _ (b : Shape) (levels : List Level) (a d : Desk) (arrays : ℕ → ℕ �
   none_plain : (events : List Event) → events ≡ [] → LeadTo (shape_of a.cache) (state_of a.cache) events (state_of d.cache) → AreSame b (state_of d.cache).arrays arrays
   none_plain events none led = quiet_plain events (λ s. subst (λ e. (after s e).arrays ≡ s.arrays) (sym none) refl) led
 
-  get_plain : (level : ℕ) (pos : List ℕ) (told : Answer) (events : List Event) (shots : List Shot) → IsGot a.cache level pos told events d.cache → LeadTo (shape_of a.cache) (state_of a.cache) events (state_of d.cache) → Steps (command.Get level pos) told shots
-  get_plain level pos (answer.Value x) events shots served led = got_plain level pos x events shots served led
-  get_plain level pos answer.Done events shots served led = absurd served
-  get_plain level pos (answer.Frame painted) events shots served led = absurd served
-  get_plain level pos (answer.Fetched loaded held refused) events shots served led = absurd served
-  get_plain level pos (answer.Refused refusal.Outside) events shots served led = (arrays, (refl, none_plain events served.0.1 led))
-  get_plain level pos (answer.Refused (refusal.TooLarge value)) events shots served led = absurd served.0
-  get_plain level pos (answer.Refused (refusal.Acquire err)) events shots ((cell, (at, (voxel, piece))), caused) led = (arrays, (refl, quiet_plain events (refused_unwritten a.cache cell err events piece) led))
+  get_plain : (level : ℕ) (pos : List ℕ) (told : Answer) (events : List Event) (stores : List StoreCall) (shots : List Shot) → shots ≡ [] → IsGot a.cache level pos told events stores d.cache → LeadTo (shape_of a.cache) (state_of a.cache) events (state_of d.cache) → Steps (command.Get level pos) told shots
+  get_plain level pos (answer.Value x) events stores shots left served led = got_plain level pos x events stores shots left served led
+  get_plain level pos answer.Done events stores shots left served led = absurd served
+  get_plain level pos (answer.Frame painted) events stores shots left served led = absurd served
+  get_plain level pos (answer.Fetched loaded held refused) events stores shots left served led = absurd served
+  get_plain level pos (answer.Refused refusal.Outside) events stores shots left served led = (arrays, ((left, refl), none_plain events served.0.1.0 led))
+  get_plain level pos (answer.Refused (refusal.TooLarge value)) events stores shots left served led = absurd served.0
+  get_plain level pos (answer.Refused (refusal.Acquire err)) events stores shots left ((cell, at, voxel, refused), caused) led = (arrays, ((left, refl), quiet_plain events (acquire_unwritten a.cache cell (Err err) events stores refused.is) led))
 
-  put_plain : (level : ℕ) (pos : List ℕ) (x : ℕ) (told : Answer) (events : List Event) (shots : List Shot) → IsPut a.cache level pos x told events d.cache → LeadTo (shape_of a.cache) (state_of a.cache) events (state_of d.cache) → Steps (command.Set level pos x) told shots
-  put_plain level pos x (answer.Value y) events shots served led = absurd served
-  put_plain level pos x answer.Done events shots served led = set_plain level pos x events shots served led
-  put_plain level pos x (answer.Frame painted) events shots served led = absurd served
-  put_plain level pos x (answer.Fetched loaded held refused) events shots served led = absurd served
-  put_plain level pos x (answer.Refused refusal.Outside) events shots served led = (arrays, (refl, none_plain events served.0.1 led))
-  put_plain level pos x (answer.Refused (refusal.TooLarge value)) events shots ((same_value, (cell, (at, (voxel, (large, none))))), caused) led = (arrays, (refl, none_plain events none led))
-  put_plain level pos x (answer.Refused (refusal.Acquire err)) events shots ((cell, (at, (voxel, (small, piece)))), caused) led = (arrays, (refl, quiet_plain events (refused_unwritten a.cache cell err events piece) led))
+  put_plain : (level : ℕ) (pos : List ℕ) (x : ℕ) (told : Answer) (events : List Event) (stores : List StoreCall) (shots : List Shot) → shots ≡ [] → IsPutTask a.cache level pos x told events stores d.cache → LeadTo (shape_of a.cache) (state_of a.cache) events (state_of d.cache) → Steps (command.Set level pos x) told shots
+  put_plain level pos x (answer.Value y) events stores shots left served led = absurd served
+  put_plain level pos x answer.Done events stores shots left served led = set_plain level pos x events stores shots left served led
+  put_plain level pos x (answer.Frame painted) events stores shots left served led = absurd served
+  put_plain level pos x (answer.Fetched loaded held refused) events stores shots left served led = absurd served
+  put_plain level pos x (answer.Refused refusal.Outside) events stores shots left served led = (arrays, ((left, refl), none_plain events served.0.1.0 led))
+  put_plain level pos x (answer.Refused (refusal.TooLarge value)) events stores shots left ((same_value, cell, at, voxel, large, none), caused) led = (arrays, ((left, refl), none_plain events none.0 led))
+  put_plain level pos x (answer.Refused (refusal.Acquire err)) events stores shots left ((cell, at, voxel, small, refused), caused) led = (arrays, ((left, refl), quiet_plain events (acquire_unwritten a.cache cell (Err err) events stores refused.is) led))
 
-  view_plain : (viewer : ℕ) (name : List ℕ) (view : View) (shot : Shot) (shots : List Shot) (events : List Event) (calls : List Asked) (stores : List StoreCall) (told : Answer) → shots ≡ shot ∷ [] → IsViewed a viewer view shot events calls stores told d
+  view_plain : (viewer : ℕ) (name : List ℕ) (view : View) (shot : Shot) (shots : List Shot) (events : List Event) (calls : List Asked) (stores : List StoreCall) (told : Answer) → shots ≡ shot ∷ [] → shot.name ≡ name → IsViewed a viewer view shot events calls stores told d
       → LeadTo (shape_of a.cache) (state_of a.cache) events (state_of d.cache) → Steps (command.View name view) told shots
-  view_plain viewer name view shot shots events calls stores (answer.Value x) one viewed led = absurd viewed
-  view_plain viewer name view shot shots events calls stores answer.Done one viewed led = absurd viewed
-  view_plain viewer name view shot shots events calls stores (answer.Fetched loaded held refused) one viewed led = absurd viewed
-  view_plain viewer name view shot shots events calls stores (answer.Frame painted) one viewed led =
+  view_plain viewer name view shot shots events calls stores (answer.Value x) one under viewed led = absurd viewed
+  view_plain viewer name view shot shots events calls stores answer.Done one under viewed led = absurd viewed
+  view_plain viewer name view shot shots events calls stores (answer.Fetched loaded held refused) one under viewed led = absurd viewed
+  view_plain viewer name view shot shots events calls stores (answer.Frame painted) one under viewed led =
       let calm : AreCalm events = subst AreCalm (sym viewed.events_are) (frame_calm viewer (levels_at a) view shot.picture viewed.frame.events viewed.frame.visited) in
       let painting : IsPainting levels view (notes_of view.strategy events) shot.picture =
       subst (λ l. IsPainting l view (notes_of view.strategy events) shot.picture) is (subst (λ (e : List Event). IsPainting (levels_at a) view (notes_of view.strategy e) shot.picture) (sym viewed.events_are) viewed.frame.painting) in
       let told : painted ≡ painted_of (wanted_level levels view) shot.picture = subst (λ l. painted ≡ painted_of (wanted_level l view) shot.picture) is viewed.told in
       let exists : HasLevel levels view = subst (λ l. HasLevel l view) is viewed.exists in
-      (arrays, ((shot, one, plain_frame b a.cache levels view events arrays shape is same calm led.legal painted shot.picture few some exists viewed.filled painting told, refl), quiet_plain events (calm_unwritten events calm) led))
-  view_plain viewer name view shot shots events calls stores (answer.Refused refusal.Outside) one viewed led = (arrays, (refl, none_plain events viewed.no_events led))
-  view_plain viewer name view shot shots events calls stores (answer.Refused (refusal.TooLarge value)) one viewed led = absurd viewed
-  view_plain viewer name view shot shots events calls stores (answer.Refused (refusal.Acquire err)) one viewed led =
+      (arrays, ((shot, one, under, viewed.shown, plain_frame b a.cache levels view events arrays shape is same calm led.legal painted shot.picture few some exists viewed.filled painting told, refl), quiet_plain events (calm_unwritten events calm) led))
+  view_plain viewer name view shot shots events calls stores (answer.Refused refusal.Outside) one under viewed led = (arrays, ((shot, one, under, viewed.hidden, refl), none_plain events viewed.no_events led))
+  view_plain viewer name view shot shots events calls stores (answer.Refused (refusal.TooLarge value)) one under viewed led = absurd viewed
+  view_plain viewer name view shot shots events calls stores (answer.Refused (refusal.Acquire err)) one under viewed led =
       let cut = viewed.cut in
       let calm : AreCalm events = subst AreCalm (sym viewed.events_are)
       (both_calm cut.events cut.piece (cut_calm viewer (levels_at a) view shot.picture cut.cell cut.events cut.visited) (refused_calm cut.cell err cut.piece cut.look)) in
-      (arrays, (refl, quiet_plain events (calm_unwritten events calm) led))
+      (arrays, ((shot, one, under, viewed.hidden, refl), quiet_plain events (calm_unwritten events calm) led))
 
-  fetch_plain : {X : Type 0} (count : ℕ) (shots : List Shot) (told : Answer) (result : Result Fetched X) → told ≡ fetch_answer result → AreSame b (state_of d.cache).arrays arrays → Steps (command.Fetch count) told shots
-  fetch_plain count shots told (Ok fetched) is now = subst (λ (t : Answer). Steps (command.Fetch count) t shots) (sym is) (arrays, (refl, now))
-  fetch_plain count shots told (Err memory) is now = subst (λ (t : Answer). Steps (command.Fetch count) t shots) (sym is) (arrays, (refl, now))
+  fetch_plain : {X : Type 0} (count : ℕ) (shots : List Shot) (none : shots ≡ []) (told : Answer) (result : Result Fetched X) → told ≡ fetch_answer result → AreSame b (state_of d.cache).arrays arrays → Steps (command.Fetch count) told shots
+  fetch_plain count shots none told (Ok fetched) is now = subst (λ (t : Answer). Steps (command.Fetch count) t shots) (sym is) (arrays, ((none, refl), now))
+  fetch_plain count shots none told (Err memory) is now = subst (λ (t : Answer). Steps (command.Fetch count) t shots) (sym is) (arrays, ((none, refl), now))
 
   step_plain : (viewer : ℕ) (command : Command) (told : Answer) (t : Trace) → IsServed a viewer command told t d → LeadTo (shape_of a.cache) (state_of a.cache) t.events (state_of d.cache) → Steps command told t.shots
-  step_plain viewer (command.Get level pos) told t served led = get_plain level pos told t.events t.shots served.0 led
-  step_plain viewer (command.Set level pos x) told t served led = put_plain level pos x told t.events t.shots served.0 led
-  step_plain viewer (command.View name view) told t (shot, one, none, named, viewed) led = view_plain viewer name view shot t.shots t.events t.calls t.stores told one viewed led
+  step_plain viewer (command.Get level pos) told t served led = get_plain level pos told t.events t.stores t.shots served.1.shots served.0 led
+  step_plain viewer (command.Set level pos x) told t served led = put_plain level pos x told t.events t.stores t.shots served.1.shots served.0 led
+  step_plain viewer (command.View name view) told t (shot, one, none, named, viewed) led = view_plain viewer name view shot t.shots t.events t.calls t.stores told one named viewed led
   step_plain viewer (command.Fetch count) told t (none, fetched) led =
-      fetch_plain count t.shots told fetched.result fetched.told_is (quiet_plain t.events (calm_unwritten t.events (servings_calm a d t.servings t.events t.calls fetched.are)) led)
+      fetch_plain count t.shots none told fetched.result fetched.told_is (quiet_plain t.events (calm_unwritten t.events (servings_calm a d t.servings t.events t.calls fetched.are)) led)
 
 pub runs_plain : (b : Shape) (levels : List Level) (a d : Desk) (commands : List NumberedCommand) (replies : List Reply) (trace : Trace) (arrays : ℕ → ℕ → ℕ)
-    → IsSameShape b (shape_of a.cache) → levels_at a ≡ levels → length levels ≤ 8 → 0 < length levels → AreSame b (state_of a.cache).arrays arrays → ServesAll a commands replies trace d
+    → IsSameShape b (shape_of a.cache) → levels_at a ≡ levels → length levels ≤ 8 → 0 < length levels → AreSame b (state_of a.cache).arrays arrays → ServesTasks a commands replies trace d
     → (now : ℕ → ℕ → ℕ) × (ArePlain levels b.is_told arrays commands replies trace.shots now × AreSame b (state_of d.cache).arrays now)
 runs_plain b levels a d [] [] trace arrays shape is few some same served = (arrays, ((ap (λ (t : Trace). t.shots) served.0, refl), subst (λ (x : Desk). AreSame b (state_of x.cache).arrays arrays) (sym served.1) same))
 runs_plain b levels a d (c ∷ commands) (r ∷ replies) trace arrays shape is few some same (mid, first, rest, split, one, others) =

@@ -4,10 +4,12 @@ use Rattle.arr_history.specs.declared.event.Event.{Event}
 use Rattle.cell_file.specs.declared.errors.AcquireErr.{AcquireErr}
 use Rattle.cell_grid.specs.declared.level.Level.{Level}
 use Rattle.cell_grid.specs.Pyramid.{cells_of}
-use Rattle.fetch_queue.specs.Queue.{Queue, opening}
-use Rattle.sole_cache.specs.Cached.{Cached, handles_out}
+use Rattle.fetch_queue.specs.Queue.{Queue, opening_queue}
+use Rattle.sole_cache.specs.Cached.{Cached, handles_out, state_of}
 use Rattle.volatile_cell.specs.Asked.{Asked, AskedFrom}
-use Rattle.volatile_cell.specs.SoleEyes.{Leads, EyesLead, IsRefusal, IsQueueFor}
+use Rattle.sole_eyes.specs.SoleEyes.{EyesLeadOn, EyesLead, IsRefusal, sole}
+use Rattle.volatile_cell.specs.Requests.{IsQueueFor}
+use Rattle.volatile_cell.specs.Front.{Front}
 
 -- a cache, and the queue of the cells that are wanted of it
 pub record Desk : Type 0 where
@@ -22,7 +24,7 @@ levels_at d = d.cache.levels
 
 -- These events and these calls of the queue lead from one moment to another.
 pub record DeskLeads (old : Desk) (events : List Event) (calls : List Asked) (new : Desk) : Type 0 where
-  pub cache : Leads old.cache events new.cache
+  pub cache : EyesLeadOn old.cache events new.cache
   pub queue : AskedFrom old.queue calls new.queue
 
 -- The same by steps of eyes over the cache, with their calls of the stores.
@@ -34,9 +36,13 @@ pub record DeskFollows (old : Desk) (events : List Event) (calls : List Asked) (
 abbrev pub IsDeskRefusal : Desk → Desk → ℕ → AcquireErr → Type 0
 IsDeskRefusal old new cell err = IsRefusal old.cache new.cache cell err
 
+-- a desk, as frames and fetches of a viewer speak of it
+abbrev pub desk_front : ℕ → Front Desk
+desk_front viewer = record { looker = λ d. sole viewer d.cache.levels; pins = λ d c. (state_of d.cache).pins 0 c; leads = DeskFollows; caused = IsDeskRefusal }
+
 -- the queue of a run before its first command: 16 viewers, one priority for each level, and at most 256 cells that are prefetched
 abbrev pub first_queue : List Level → Queue
-first_queue levels = opening 16 (cells_of levels) (length levels) 256
+first_queue levels = opening_queue 16 (cells_of levels) (length levels) 256
 
 -- No handle is out, and the queue is for the cache's cells and 16 viewers.
 pub record IsReady (d : Desk) : Type 0 where

@@ -11,14 +11,14 @@ use Rattle.run_report.specs.declared.reply.Answer.TheVariants as answer
 use Rattle.run_report.specs.declared.reply.Refusal.TheVariants as refusal
 use Rattle.store_calls.specs.Calls.{StoreCall}
 use Rattle.volatile_cell.specs.Asked.{Asked}
-use Rattle.team_run.specs.Desk.{Desk, DeskFollows, IsDeskRefusal, levels_at}
+use Rattle.team_run.specs.Desk.{Desk, desk_front}
 
 -- A serving, and servings one after another, each with its events and its call of the queue.
 abbrev pub IsDeskServing : Desk → Served → List Event → List Asked → Desk → Type 0
-IsDeskServing old serving events calls new = IsServing DeskFollows levels_at (λ _. 0) IsDeskRefusal old serving events calls new
+IsDeskServing old serving events calls new = IsServing (desk_front 0) old serving events calls new
 
 abbrev pub AreDeskServings : Desk → List Served → List Event → List Asked → Desk → Type 0
-AreDeskServings old servings events calls new = AreServings DeskFollows levels_at (λ _. 0) IsDeskRefusal old servings events calls new
+AreDeskServings old servings events calls new = AreServings (desk_front 0) old servings events calls new
 
 -- the calls of the stores of a serving, and of servings one after another
 abbrev pub stores_of : (old new : Desk) (serving : Served) (events : List Event) (calls : List Asked) → IsDeskServing old serving events calls new → List StoreCall

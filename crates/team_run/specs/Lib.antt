@@ -8,3 +8,7 @@ pub mod Fetches
 pub mod Serve
 pub mod Plain
 pub mod Run
+pub mod Headline
+pub mod Commands
+pub mod Faults
+pub mod Refusals

@@ -16,7 +16,7 @@ use Rattle.scale_pick.specs.Picture.{IsFilled}
 use Rattle.scale_pick.specs.Wanted.{wanted_level}
 use Rattle.store_calls.specs.Calls.{StoreCall}
 use Rattle.volatile_cell.specs.Asked.{Asked}
-use Rattle.team_run.specs.Desk.{Desk, DeskFollows, IsDeskRefusal, levels_at}
+use Rattle.team_run.specs.Desk.{Desk, levels_at, desk_front}
 
 -- the level that a view gives, where it gives one, exists, or doesn't
 abbrev pub HasLevel : List Level → View → Type 0
@@ -33,7 +33,7 @@ module _ (old : Desk) (viewer : ℕ) (view : View) (shot : Shot) (events : List 
     pub filled : IsFilled shot.picture
     pub told : painted ≡ painted_of (wanted_level (levels_at old) view) shot.picture
     pub blocking : view.strategy ≡ Blocking → IsComplete (wanted_level (levels_at old) view) shot.picture
-    pub frame : IsFrame DeskFollows levels_at (λ _. 0) (λ _. viewer) old new view shot.picture
+    pub frame : IsFrame (desk_front viewer) old new view shot.picture
     pub events_are : events ≡ frame.events
     pub calls_are : calls ≡ frame.calls
     pub stores_are : stores ≡ frame.led.cache.calls
@@ -42,7 +42,7 @@ module _ (old : Desk) (viewer : ℕ) (view : View) (shot : Shot) (events : List 
   pub record CutsOff (err : AcquireErr) (new : Desk) : Type 0 where
     pub exists : HasLevel (levels_at old) view
     pub hidden : shot.shown ≡ false
-    pub cut : IsCutOff DeskFollows levels_at (λ _. 0) (λ _. viewer) IsDeskRefusal old new view shot.picture err
+    pub cut : IsCutOff (desk_front viewer) old new view shot.picture err
     pub events_are : events ≡ cut.events ++ cut.piece
     pub calls_are : calls ≡ cut.calls
     pub stores_are : stores ≡ cut.led.cache.calls ++ cut.cause.calls

@@ -1,9 +1,8 @@
 // Fetches.
 ghost use Rattle.std.specs.Prelude.{◌≡◌, ◌<◌, []};
-ghost use Rattle.sole_cache.specs.Value.{by};
 ghost use Rattle.team_run.specs.Desk.{IsReady, desk};
 ghost use Rattle.team_run.specs.Fetches.{fetch_answer};
-ghost use Rattle.team_run.specs.Serve.{Answers};
+ghost use Rattle.team_run.specs.Serve.{AnswersTask};
 ghost use Rattle.view_script.specs.declared.command.Command.TheVariants.{Fetch};
 
 use cell_file::AcquireErr;
@@ -12,7 +11,7 @@ use fetch_queue::Queues;
 use fetchers::{Fetched, Memory, serve_up_to};
 use run_report::{Answer, Refusal};
 use sole_cache::SoleCache;
-use volatile_cell::SoleEyes;
+use sole_eyes::SoleEyes;
 
 /// Serves so many requests of the queue, or fewer where it has no more, and counts them.
 pub fn fetch<S: Store>(
@@ -21,10 +20,10 @@ pub fn fetch<S: Store>(
     viewer: u32,
     count: u32,
 ) -> Answer
-    requires ready { IsReady (desk (by S.contents cache.old) queue.old) }
+    requires ready { IsReady (desk cache.old queue.old) }
     requires viewer { viewer < 16 }
-    ensures answers { Answers (desk (by S.contents cache.old) queue.old) viewer (Fetch count) result [] (desk (by S.contents cache.new) queue.new) }
-    ensures ready { IsReady (desk (by S.contents cache.new) queue.new) }
+    ensures answers { AnswersTask (desk cache.old queue.old) viewer (Fetch count) result [] (desk cache.new queue.new) }
+    ensures ready { IsReady (desk cache.new queue.new) }
 {
     let mut eyes = SoleEyes::new(cache, queue, viewer);
     answer_of(serve_up_to(&mut eyes, count))

@@ -9,8 +9,6 @@ mod show;
 mod solo;
 mod stage;
 mod task;
-#[cfg(test)]
-mod tests;
 mod voxel;
 
 pub use ran::{Ran, RunErr};

@@ -1,9 +1,8 @@
 // Tasks, one after another.
 ghost use Rattle.std.specs.Prelude.{◌≡◌, ◌+◌, ◌<◌, ◌≤◌, ◌∷◌, [], ◌++◌, All, None, length, map, cond, count_by, vec_len, vec_capacity};
 ghost use Rattle.std.specs.Option.{option_to_list};
-ghost use Rattle.sole_cache.specs.Value.{by};
 ghost use Rattle.team_run.specs.Desk.{IsReady, desk};
-ghost use Rattle.team_run.specs.Serve.{Answers, Adds};
+ghost use Rattle.team_run.specs.Serve.{AnswersTask, Adds};
 ghost use Rattle.team_run.specs.Task.{IsDue, IsTaskDue, command_in, numbered, is_view};
 
 use crate::fetch::fetch;
@@ -30,12 +29,12 @@ pub fn serve_all<S: Store>(
     replies: &mut Vec<Reply>,
     shots: &mut Vec<Shot>,
 )
-    requires ready { IsReady (desk (by S.contents cache.old) queue.old) }
+    requires ready { IsReady (desk cache.old queue.old) }
     requires due { All IsDue plan.items }
     requires replies { vec_len replies.old + length plan.items ≤ vec_capacity replies.old }
     requires shots { vec_len shots.old + count_by (λ d. is_view d.task) plan.items ≤ vec_capacity shots.old }
-    ensures adds { Adds (desk (by S.contents cache.old) queue.old) (map numbered plan.items) replies.old.items replies.new.items shots.old.items shots.new.items (desk (by S.contents cache.new) queue.new) }
-    ensures ready { IsReady (desk (by S.contents cache.new) queue.new) }
+    ensures adds { Adds (desk cache.old queue.old) (map numbered plan.items) replies.old.items replies.new.items shots.old.items shots.new.items (desk cache.new queue.new) }
+    ensures ready { IsReady (desk cache.new queue.new) }
 {
     for due in plan {
         serve_due(cache, queue, due, replies, shots);
@@ -50,12 +49,12 @@ fn serve_due<S: Store>(
     replies: &mut Vec<Reply>,
     shots: &mut Vec<Shot>,
 )
-    requires ready { IsReady (desk (by S.contents cache.old) queue.old) }
+    requires ready { IsReady (desk cache.old queue.old) }
     requires due { IsDue due }
     requires replies { vec_len replies.old < vec_capacity replies.old }
     requires shots { vec_len shots.old + cond (is_view due.task) 1 0 ≤ vec_capacity shots.old }
-    ensures adds { Adds (desk (by S.contents cache.old) queue.old) (numbered due ∷ []) replies.old.items replies.new.items shots.old.items shots.new.items (desk (by S.contents cache.new) queue.new) }
-    ensures ready { IsReady (desk (by S.contents cache.new) queue.new) }
+    ensures adds { Adds (desk cache.old queue.old) (numbered due ∷ []) replies.old.items replies.new.items shots.old.items shots.new.items (desk cache.new queue.new) }
+    ensures ready { IsReady (desk cache.new queue.new) }
     ensures replies { vec_len replies.new ≡ vec_len replies.old + 1 }
     ensures reply_room { vec_capacity replies.old ≤ vec_capacity replies.new }
     ensures shots { vec_len shots.new ≡ vec_len shots.old + cond (is_view due.task) 1 0 }
@@ -102,10 +101,10 @@ fn add_shot(shots: &mut Vec<Shot>, shot: Option<Shot>)
 
 /// Carries out a task for a viewer.
 fn serve<S: Store>(cache: &mut SoleCache<S>, queue: &mut Queues, viewer: u32, task: Task) -> Outcome
-    requires ready { IsReady (desk (by S.contents cache.old) queue.old) }
+    requires ready { IsReady (desk cache.old queue.old) }
     requires due { IsTaskDue viewer task }
-    ensures answers { Answers (desk (by S.contents cache.old) queue.old) viewer (command_in task) result.answer (option_to_list result.shot) (desk (by S.contents cache.new) queue.new) }
-    ensures ready { IsReady (desk (by S.contents cache.new) queue.new) }
+    ensures answers { AnswersTask (desk cache.old queue.old) viewer (command_in task) result.answer (option_to_list result.shot) (desk cache.new queue.new) }
+    ensures ready { IsReady (desk cache.new queue.new) }
     ensures shots { length (option_to_list result.shot) ≡ cond (is_view task) 1 0 }
 {
     match task {

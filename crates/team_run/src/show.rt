@@ -6,9 +6,8 @@ ghost use Rattle.scale_pick.specs.declared.strategy.Strategy.TheVariants.{Blocki
 ghost use Rattle.scale_pick.specs.Painted.{painted_of, IsComplete};
 ghost use Rattle.scale_pick.specs.Picture.{IsFilled};
 ghost use Rattle.scale_pick.specs.Wanted.{wanted_level};
-ghost use Rattle.sole_cache.specs.Value.{by};
-ghost use Rattle.team_run.specs.Desk.{IsReady, DeskFollows, IsDeskRefusal, desk, levels_at};
-ghost use Rattle.team_run.specs.Serve.{Answers};
+ghost use Rattle.team_run.specs.Desk.{IsReady, desk, desk_front};
+ghost use Rattle.team_run.specs.Serve.{AnswersTask};
 ghost use Rattle.team_run.specs.Task.{HasSides};
 ghost use Rattle.team_run.specs.Views.{HasLevel, LacksLevel};
 ghost use Rattle.view_script.specs.declared.command.Command.TheVariants as command;
@@ -22,8 +21,8 @@ use fetch_queue::Queues;
 use hier_paint::{Painted, Picture, View, paint};
 use run_report::{Answer, Refusal, Shot};
 use sole_cache::SoleCache;
+use sole_eyes::SoleEyes;
 use view_script::Name;
-use volatile_cell::SoleEyes;
 
 /// Paints a view, and keeps its picture under its name.
 pub fn show<S: Store>(
@@ -34,12 +33,12 @@ pub fn show<S: Store>(
     view: View,
     mut picture: Picture,
 ) -> Outcome
-    requires ready { IsReady (desk (by S.contents cache.old) queue.old) }
+    requires ready { IsReady (desk cache.old queue.old) }
     requires viewer { viewer < 16 }
     requires limits { IsViewWithinLimits view }
     requires sides { HasSides view picture }
-    ensures answers { Answers (desk (by S.contents cache.old) queue.old) viewer (command.View name view) result.answer (option_to_list result.shot) (desk (by S.contents cache.new) queue.new) }
-    ensures ready { IsReady (desk (by S.contents cache.new) queue.new) }
+    ensures answers { AnswersTask (desk cache.old queue.old) viewer (command.View name view) result.answer (option_to_list result.shot) (desk cache.new queue.new) }
+    ensures ready { IsReady (desk cache.new queue.new) }
     ensures one { length (option_to_list result.shot) ≡ 1 }
 {
     if lacks_level(cache.geometry(), &view) {
@@ -85,7 +84,7 @@ fn frame<S: Store>(
     view: &View,
     picture: &mut Picture,
 ) -> Result<Painted, AcquireErr>
-    requires ready { IsReady (desk (by S.contents cache.old) queue.old) }
+    requires ready { IsReady (desk cache.old queue.old) }
     requires viewer { viewer < 16 }
     requires limits { IsViewWithinLimits view.now }
     requires sides { HasSides view.now picture.old }
@@ -93,12 +92,12 @@ fn frame<S: Store>(
     ensures filled { IsFilled picture.new }
     ensures painted { IfOk result (λ painted. painted ≡ painted_of (wanted_level cache.old.levels view.now) picture.new) }
     ensures blocking { view.now.strategy ≡ Blocking → OnOk result (IsComplete (wanted_level cache.old.levels view.now) picture.new) }
-    ensures frame { OnOk result (IsFrame DeskFollows levels_at (λ _. 0) (λ _. viewer) (desk (by S.contents cache.old) queue.old) (desk (by S.contents cache.new) queue.new) view.now picture.new) }
-    ensures cut_off { IfErr result (λ err. IsCutOff DeskFollows levels_at (λ _. 0) (λ _. viewer) IsDeskRefusal (desk (by S.contents cache.old) queue.old) (desk (by S.contents cache.new) queue.new) view.now picture.new err) }
-    ensures ready { IsReady (desk (by S.contents cache.new) queue.new) }
+    ensures frame { OnOk result (IsFrame (desk_front viewer) (desk cache.old queue.old) (desk cache.new queue.new) view.now picture.new) }
+    ensures cut_off { IfErr result (λ err. IsCutOff (desk_front viewer) (desk cache.old queue.old) (desk cache.new queue.new) view.now picture.new err) }
+    ensures ready { IsReady (desk cache.new queue.new) }
 {
     let mut eyes = SoleEyes::new(cache, queue, viewer);
     let painted = paint(&mut eyes, view, picture);
-    let _width = picture.width();
+    let _width = picture.width(); // read for what its contract tells the proof
     painted
 }

@@ -1,18 +1,15 @@
 // A run on one thread.
 ghost use Rattle.std.specs.Prelude.{◌≡◌, ◌≤◌, All, Err, IfOk, IsOk, [], count_by, length, map, vec_capacity, vec_len};
-ghost use Rattle.arr_history.specs.Tally.{tally_of};
-ghost use Rattle.cell_grid.specs.Pyramid.{IsPyramid};
-ghost use Rattle.sole_cache.specs.Value.{by};
 ghost use Rattle.view_script.specs.Script.{IsScript};
 ghost use Rattle.team_run.specs.Desk.{IsReady, desk};
 ghost use Rattle.team_run.specs.Range.{commands_over};
-ghost use Rattle.team_run.specs.Run.{Completes, SoloAnswers, high_of};
+ghost use Rattle.team_run.specs.Run.{RunsOver, SoloAnswers, high_of};
 ghost use Rattle.team_run.specs.Task.{IsDue, is_view, numbered};
 
 use crate::ran::{Ran, RunErr};
 use crate::serve::serve_all;
 use crate::stage::{Stage, set_up};
-use arr_history::{Closed, Unmade, tallies_grow};
+use arr_history::{Closed, Unmade, histories_keep_laws, tallies_grow};
 use cell_file::Keys;
 use cell_grid::Geometry;
 use cell_store::Store;
@@ -75,15 +72,13 @@ fn most_slots(geometry: &Geometry) -> u64
 
 /// Carries out what is set up, over a new cache, and shuts it.
 fn run<S: Store>(mut cache: SoleCache<S>, stage: Stage) -> Ran<S>
-    requires ready { IsReady (desk (by S.contents cache) stage.queue) }
+    requires ready { IsReady (desk cache stage.queue) }
     requires due { All IsDue stage.plan.items }
     requires no_replies { stage.replies.items ≡ [] }
     requires reply_room { length stage.plan.items ≤ vec_capacity stage.replies }
     requires no_shots { stage.shots.items ≡ [] }
     requires shot_room { count_by (λ d. is_view d.task) stage.plan.items ≤ vec_capacity stage.shots }
-    requires tally { (by S.contents cache).tally ≡ tally_of [] [] }
-    requires pyramid { IsPyramid cache.levels }
-    ensures completes { IfOk result.report (λ report. Completes (desk (by S.contents cache) stage.queue) (map numbered stage.plan.items) (map S.contents result.stores.items) report) }
+    ensures runs { IfOk result.report (RunsOver cache stage.queue (map numbered stage.plan.items) (map S.contents result.stores.items)) }
     ensures ok { IsOk result.report }
 {
     let Stage {
@@ -98,8 +93,10 @@ fn run<S: Store>(mut cache: SoleCache<S>, stage: Stage) -> Ran<S>
         unsaved,
         tally,
     } = cache.shut();
+    // laws, which do nothing: the contract's proof cites them
     moves_compose();
     tallies_grow();
+    histories_keep_laws();
     let report = Report::new(
         Items::from_vec(replies),
         Items::from_vec(shots),

@@ -57,7 +57,7 @@ fn top_for(geometry: &Geometry, range: Option<[u64; 2]>) -> Option<u64>
     ensures top { result ≡ top_for range geometry.now }
     ensures positive { IfSome result (λ top. 0 < top) }
 {
-    let _levels = geometry.levels();
+    let _levels = geometry.levels(); // read for what its contract tells the proof
     match range {
         Some(_) => None,
         None => Some(geometry.level(0).kind.greatest()),

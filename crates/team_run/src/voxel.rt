@@ -3,9 +3,8 @@ ghost use Rattle.std.specs.Prelude.{◌≡◌, ◌<◌, List};
 ghost use Rattle.arr_history.specs.declared.event.Event.{Event};
 ghost use Rattle.sole_cache.specs.Cached.{handles_out};
 ghost use Rattle.sole_cache.specs.Moves.{Runs};
-ghost use Rattle.sole_cache.specs.Value.{by};
 ghost use Rattle.store_calls.specs.Calls.{StoreCall};
-ghost use Rattle.team_run.specs.Serve.{refusal_in, AsksGet, AsksSet, IsGot, IsPut};
+ghost use Rattle.team_run.specs.Serve.{refusal_in, IsGot, IsPutTask};
 
 use cell_file::CellErr;
 use cell_store::Store;
@@ -14,10 +13,9 @@ use sole_cache::SoleCache;
 
 /// Answers the value of a voxel.
 pub fn get<S: Store>(cache: &mut SoleCache<S>, level: u8, pos: [u64; 3]) -> Answer
-    requires room { handles_out (by S.contents cache.old) < 64 }
-    ensures got { (events : List Event) × IsGot (by S.contents cache.old) level pos result events (by S.contents cache.new) × Runs (by S.contents cache.old) events (by S.contents cache.new) }
-    ensures asks { (stores : List StoreCall) × AsksGet (by S.contents cache.old) level pos result stores (by S.contents cache.new) }
-    ensures handles { handles_out (by S.contents cache.new) ≡ handles_out (by S.contents cache.old) }
+    requires room { handles_out cache.old < 64 }
+    ensures got { (events : List Event) × (stores : List StoreCall) × IsGot cache.old level pos result events stores cache.new × Runs cache.old events cache.new }
+    ensures handles { handles_out cache.new ≡ handles_out cache.old }
 {
     match cache.get(level, pos) {
         Ok(value) => Answer::Value(value),
@@ -27,10 +25,9 @@ pub fn get<S: Store>(cache: &mut SoleCache<S>, level: u8, pos: [u64; 3]) -> Answ
 
 /// Gives a voxel a value.
 pub fn set<S: Store>(cache: &mut SoleCache<S>, level: u8, pos: [u64; 3], value: u64) -> Answer
-    requires room { handles_out (by S.contents cache.old) < 64 }
-    ensures put { (events : List Event) × IsPut (by S.contents cache.old) level pos value result events (by S.contents cache.new) × Runs (by S.contents cache.old) events (by S.contents cache.new) }
-    ensures asks { (stores : List StoreCall) × AsksSet (by S.contents cache.old) level pos value result stores (by S.contents cache.new) }
-    ensures handles { handles_out (by S.contents cache.new) ≡ handles_out (by S.contents cache.old) }
+    requires room { handles_out cache.old < 64 }
+    ensures put { (events : List Event) × (stores : List StoreCall) × IsPutTask cache.old level pos value result events stores cache.new × Runs cache.old events cache.new }
+    ensures handles { handles_out cache.new ≡ handles_out cache.old }
 {
     match cache.set(level, pos, value) {
         Ok(()) => Answer::Done,

@@ -3,7 +3,6 @@ use Rattle.std.proofs.Common.{◌≡◌, ◌∙◌, ◌+◌, [], ◌∷◌, ◌+
 use Rattle.std.proofs.lemmas.List.{map-append}
 use Rattle.std.proofs.lemmas.List.Elements.{All-tail}
 use Rattle.std.proofs.lemmas.List.Sums.{sum_by-cons}
-use Rattle.sole_cache.specs.Value.{by}
 use Rattle.view_script.specs.Script.{NumberedCommand}
 use Rattle.team_run.specs.declared.task.Due.{Due}
 use Rattle.team_run.specs.Desk.{desk}
@@ -14,9 +13,8 @@ use Rattle.team_run.proofs.serve.serve_all.Goals as goal
 
 pub loop-due-preserved : goal.loop-due-preserved
 loop-due-preserved g c =
-    let shown = by g.S.Store.contents in
-    let first = desk (shown c.args.cache.now) c.args.queue.now in
-    let last = desk (shown c.serve_due.new.cache) c.serve_due.new.queue in
+    let first = desk c.args.cache.now c.args.queue.now in
+    let last = desk c.serve_due.new.cache c.serve_due.new.queue in
     let done = c.loop-due.yielded in
     let one = c.in-Some.due in
     let rest = c.next.new.self.rest.items in
@@ -24,7 +22,7 @@ loop-due-preserved g c =
     let more = c.serve_due.ensures in
     let views : count_by (λ (d : Due). is_view d.task) (one ∷ rest) ≡ cond (is_view one.task) 1 0 + count_by (λ d. is_view d.task) rest = sum_by-cons _ one rest in
     let adds : Adds first (map numbered done ++ numbered one ∷ []) c.args.replies.now.items c.serve_due.new.replies.items c.args.shots.now.items c.serve_due.new.shots.items last =
-    adds_on first (desk (shown c.loop-due.cache) c.loop-due.queue) last (map numbered done) (numbered one ∷ []) _ _ _ _ _ _ c.loop-due.invariant.adds more.adds in
+    adds_on first (desk c.loop-due.cache c.loop-due.queue) last (map numbered done) (numbered one ∷ []) _ _ _ _ _ _ c.loop-due.invariant.adds more.adds in
     record {
       can = tt;
       finite = tt;
