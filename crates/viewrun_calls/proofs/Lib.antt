@@ -1,0 +1,17 @@
+-- Lemmas of the call.
+pub mod AlikeLemmas
+mod KeyLemmas
+mod LogLemmas
+mod NumberLemmas
+mod PictureLemmas
+mod PutLemmas
+mod RunLemmas
+mod SourceLemmas
+mod StoresLemmas
+mod ViewLemmas
+mod WrittenLemmas
+mod CalledLemmas
+mod OpenLemmas
+mod OneLemmas
+mod CleanLemmas
+mod HeadlineLemmas

@@ -1,0 +1,13 @@
+pub mod Alike
+pub mod Call
+pub mod Ending
+pub mod Pictures
+pub mod Script
+pub mod Stores
+pub mod Volume
+pub mod Words
+pub mod Work
+pub mod OneFunction
+pub mod Clean
+pub mod Headline
+pub mod Alone
