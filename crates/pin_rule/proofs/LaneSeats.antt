@@ -1,5 +1,5 @@
 -- The seat round the taking and the giving of a lane.
-use Rattle.std.proofs.Common.{◌≡◌, ℕ, ◌<◌, ◌==◌, [], ◌∷◌, Option, Some, None, sym, ap, ◌∙◌, subst}
+use Rattle.std.proofs.Common.{◌≡◌, ℕ, ◌<◌, ◌==◌, [], ◌∷◌, length, Option, Some, None, sym, ap, ◌∙◌, subst, ◌+◌, length-set}
 use mathlib.Core.Option.{none}
 use prog.Atomic.{either}
 use Rattle.atomic_table.specs.Table.{step, rest, Allows}
@@ -7,7 +7,7 @@ use Rattle.pin_words.specs.declared.lane.Taken.{Taken}
 use Rattle.pin_words.specs.declared.doing.Doing.{Doing}
 use Rattle.pin_words.specs.declared.doing.Stage.TheVariants.{Idle}
 use Rattle.pin_words.specs.Plan.{Plan}
-use Rattle.pin_words.specs.Account.{Returns}
+use Rattle.pin_words.specs.Account.{rise, rose, Returns}
 use Rattle.pin_words.specs.Layout.{lane_at}
 use Rattle.pin_words.specs.Rule.{Ruled, Sat}
 use Rattle.pin_words.specs.Lanes.{TakesLane, GivesLane, took, gave}
@@ -33,11 +33,18 @@ module _ {S : Type 0} (p : Plan S (Option (Made S))) (made : Made S) where
   )
 
   pub taken_number : (old mid new : Sat S (Option (Made S))) (l : ℕ) (x : S) → TakesLane p old.0 l x mid.0 → new ≡ (mid.0, (l, None) ∷ rest mid.1) → SamePass old.0 new.0
-  taken_number old mid new l x told now = (ap (λ m. m.0.number) now ∙ ap (λ (d : Doing _ _). d.number) told.sees.is, ap (λ m. m.0.drawn) now ∙ ap (λ (d : Doing _ _). d.drawn) told.sees.is)
+  taken_number old mid new l x told now = (ap (λ m. m.0.number) now ∙ ap (λ (d : Doing _ _). d.number) told.sees.is, ap (λ m. m.0.drawn) now ∙ ap (λ (d : Doing _ _). d.drawn) told.sees.is, ap (λ m. length m.0.rises) now ∙ ap (λ (d : Doing _ _). length d.rises) told.sees.is)
 
   -- the seat, once the store lies in its place again
   pub put_carries : (old mid : Sat S (Option (Made S))) (o : Taken S) (l : ℕ) (y : S) → old.0.lane ≡ Some o → l ≡ o.lane → old.1 ≡ carried old.0.lane → mid ≡ (old.0, (l, Some y) ∷ rest old.1) → mid.1 ≡ (o.lane, Some y) ∷ []
   put_carries old mid o l y has is carries now = ap (λ m. m.1) now ∙ (λ i. (is i, Some y) ∷ rest ((carries ∙ ap carried has) i))
+
+  pub given_number : (old new : Doing S (Option (Made S))) (o : Taken S) (y : S) → GivesLane p old o y new → SamePass old new
+  given_number old new o y told = (
+    ap (λ (d : Doing _ _). d.number) told,
+    ap (λ (d : Doing _ _). d.drawn) told,
+    ap (λ (d : Doing _ _). length d.rises) told ∙ length-set old.rises o.lane (rise o.lane old + rose (p.shows o.store).faults (p.shows y).faults),
+  )
 
   pub given_rests : (old new : Sat S (Option (Made S))) (o : Taken S) (y : S) → Rests old made → new.1 ≡ [] → GivesLane p old.0 o y new.0 → Rests new made
   given_rests old new o y r none_left told = (

@@ -6,3 +6,7 @@ pub mod LaneSeats
 pub mod Draining
 pub mod Trying
 pub mod Telling
+pub mod Goings
+pub mod CellWords
+pub mod Saving
+pub mod Scans

@@ -12,7 +12,7 @@ use mathlib.Core.Option.{some}
 use lib.ListN.{get_elem?}
 use Rattle.arr_history.specs.History.{after}
 use Rattle.arr_history.proofs.Counts.{count_by-append}
-use Rattle.cell_store.specs.Store.{Contents, Entry}
+use Rattle.cell_store.specs.Store.{Contents, Entry, held_of}
 use Rattle.cell_grid.specs.declared.level.Level.{Level}
 use Rattle.cell_grid.specs.Pyramid.{cells_of, voxels_of}
 use Rattle.cell_file.specs.File.{got_entry, LogsFetch}
@@ -77,8 +77,8 @@ module _ {S : Type 0} (p : Plan S (Option (Made S))) where
     pub told : (p.shows y).told ≡ (p.shows x).told
     pub told_log : (p.shows y).told_log ≡ (p.shows x).told_log
     pub never_falls : (p.shows x).faults ≤ (p.shows y).faults
-    pub held : IsTrue (p.shows x).told → (p.shows y).held ≡ (p.shows x).held
-    pub gave : IsTrue (p.shows x).told → p.standing (p.shows x).held c ≡ Some values
+    pub held : IsTrue (p.shows x).told → (held_of (p.shows y)) ≡ (held_of (p.shows x))
+    pub gave : IsTrue (p.shows x).told → p.standing (held_of (p.shows x)) c ≡ Some values
     pub logged : IsTrue (p.shows x).told_log → LogsFetch (p.shows x).log (p.shows y).log (p.edited c) base
 
   module _ (l c : ℕ) (base : List ℕ) (x y first : S) (values : List ℕ) (d d' : Doing S (Option (Made S))) (is_first : get_elem? p.stores l ≡ some first) (own : InLane p l c)
@@ -151,15 +151,15 @@ module _ {S : Type 0} (shows : S → Contents) (m : Made S) (levels : List Level
 
   -- what a fetch says of the cell n, in the words of the table
   pub fetched : (n c : ℕ) (base : List ℕ) (x y : S) (out : List ℕ) → n ≡ c → length out ≡ voxels_of levels n
-      → (shows y).told ≡ (shows x).told → (shows y).told_log ≡ (shows x).told_log → (shows x).faults ≤ (shows y).faults → (IsTrue (shows x).told → (shows y).held ≡ (shows x).held)
-      → (IsTrue (shows x).told → standing levels keys (shows x).held n ≡ Some (take (voxels_of levels n) out)) → (IsTrue (shows x).told_log → LogsFetch (shows x).log (shows y).log (edited_key levels n) base)
+      → (shows y).told ≡ (shows x).told → (shows y).told_log ≡ (shows x).told_log → (shows x).faults ≤ (shows y).faults → (IsTrue (shows x).told → (held_of (shows y)) ≡ (held_of (shows x)))
+      → (IsTrue (shows x).told → standing levels keys (held_of (shows x)) n ≡ Some (take (voxels_of levels n) out)) → (IsTrue (shows x).told_log → LogsFetch (shows x).log (shows y).log (edited_key levels n) base)
       → Fetched plan c base x y out
   fetched n c base x y out is long told told_log never_falls held gave logged = record {
     told = told;
     told_log = told_log;
     never_falls = never_falls;
     held = held;
-    gave = λ h. subst (λ (q : List Level × KeyNames × ℕ). standing q.0 q.1 (shows x).held q.2 ≡ Some out) (λ i. (sym over i, sym known i, is i)) (gave h ∙ ap Some (take_all (voxels_of levels n) out (omega (arith, long))));
+    gave = λ h. subst (λ (q : List Level × KeyNames × ℕ). standing q.0 q.1 (held_of (shows x)) q.2 ≡ Some out) (λ i. (sym over i, sym known i, is i)) (gave h ∙ ap Some (take_all (voxels_of levels n) out (omega (arith, long))));
     logged = λ h. subst (λ (q : List Level × ℕ). LogsFetch (shows x).log (shows y).log (edited_key q.0 q.1) base) (λ i. (sym over i, is i)) (logged h);
   }
 

@@ -83,7 +83,7 @@ module _ {S M : Type 0} (p : Plan S M) where
 
 module _ {S M : Type 0} (c s : ℕ) (mark : Bool) where
   -- what is found of the one cell that was closed
-  one_left : (at : List Event) (d : Doing S M) → d.leaving ≡ left c s mark at ∷ [] → (has_left c d ≡ true) × (left_of c d ≡ left c s mark at) × (lefts_without c d ≡ [])
+  pub one_left : (at : List Event) (d : Doing S M) → d.leaving ≡ left c s mark at ∷ [] → (has_left c d ≡ true) × (left_of c d ≡ left c s mark at) × (lefts_without c d ≡ [])
   one_left at d e = subst (λ (q : List Left). (has_left c (record d { leaving = q }) ≡ true) × (left_of c (record d { leaving = q }) ≡ left c s mark at) × (lefts_without c (record d { leaving = q }) ≡ [])) (sym e)
       (ap (λ (b : Bool). cond b true false) (eqb_self c), ap (λ (b : Bool). cond b (left c s mark at) (record { cell = c; slot = 0; marked = false; at = [] })) (eqb_self c), ap (λ (b : Bool). cond b [] (left c s mark at ∷ [])) (eqb_self c))
 

@@ -1,15 +1,14 @@
 -- What clauses say of a table, of a pass, and of what belongs to a pass.
-use Rattle.std.specs.Prelude.{◌≡◌, ℕ, ◌+◌, ◌/◌, ◌%◌, ◌<◌, ◌≤◌, ◌==◌, if◌then◌else◌, Bool, true, IsTrue, List, [], ◌∷◌, length, Option, Some, None, vec_capacity, IsSome}
+use Rattle.std.specs.Prelude.{◌≡◌, ℕ, ◌+◌, ◌<◌, ◌≤◌, Bool, true, IsTrue, List, [], ◌∷◌, length, Option, Some, None, vec_capacity, IsSome}
 use mathlib.Core.Option.{some}
 use lib.ListN.{get_elem?}
 use Rattle.pin_words.specs.Ends.{Settled}
-use Rattle.cell_store.specs.Store.{Contents}
+use Rattle.cell_store.specs.Store.{Contents, held_of as held_by}
 use Rattle.cell_grid.specs.Pyramid.{cells_of, voxels_of}
 use Rattle.cell_grid.specs.Kind.{greatest_of}
 use Rattle.cell_grid.specs.Pyramid.{kind_of}
 use Rattle.arr_history.specs.declared.event.Event.TheVariants as event
 use Rattle.arr_history.specs.declared.cell_state.Seen.{Seen}
-use Rattle.arr_history.specs.declared.cell_state.Seen.TheVariants as look
 use Rattle.arr_history.specs.History.{after}
 use Rattle.pin_words.specs.declared.holding.Pin.{Pin}
 use Rattle.pin_words.specs.declared.lane.Taken.{Taken}
@@ -20,9 +19,9 @@ use Rattle.pin_words.specs.Standing.{StandsFor, gets_under}
 use Rattle.pin_words.specs.Account.{times_in, Returns}
 use Rattle.pin_words.specs.Rule.{Sat}
 use Rattle.pin_words.specs.Finding.{pin, has_pin, has_held, held_of, has_left, left_of}
-use Rattle.pin_words.specs.Tells.{Adds, tried}
+use Rattle.pin_words.specs.Tells.{Adds}
 use Rattle.pin_words.specs.Pins.{seen_of}
-use Rattle.pin_words.specs.Cells.{held, scanned, IsDue}
+use Rattle.pin_words.specs.Cells.{IsDue}
 use Rattle.pin_words.specs.Lanes.{GivesLane}
 use Rattle.pin_rule.specs.declared.made.Made.{Made}
 use Rattle.pin_rule.specs.declared.pins.Pins.{Pins}
@@ -75,13 +74,14 @@ module _ {S : Type 0} where
   abbrev pub HasRoom : Doing S (Option (Made S)) → ℕ → Made S → Type 0
   HasRoom d room made = d.number ≡ 0 → (0 < d.drawn) × (length made.stores.value.items ≤ room)
 
-  -- the same pass, that has drawn as many numbers
+  -- the same pass, that has drawn as many numbers and counts its rises for as many lanes
   abbrev pub SamePass : Doing S (Option (Made S)) → Doing S (Option (Made S)) → Type 0
-  SamePass d d' = (d'.number ≡ d.number) × (d'.drawn ≡ d.drawn)
+  SamePass d d' = (d'.number ≡ d.number) × (d'.drawn ≡ d.drawn) × (length d'.rises ≡ length d.rises)
 
-  -- a pass of this table
+  -- a pass of this table, which counts its rises for each lane
   abbrev pub IsPassOf : Pins S → Pass S → Type 0
   IsPassOf t p = (p.seat.table_id ≡ t.table.shared.table_id) × Rests p.seat.me (made_of t) × HasRoom (view p) (vec_capacity p.list) (made_of t)
+      × (length (view p).rises ≡ lane_count t)
 
   -- the handle is one of the pass
   abbrev pub IsHeld : Pins S → Pass S → PinnedCell → Type 0
@@ -95,14 +95,6 @@ module _ {S : Type 0} where
   abbrev pub IsMyLeaving : Doing S (Option (Made S)) → ℕ → ℕ → Bool → Type 0
   IsMyLeaving d c s mark = (has_left c d ≡ true) × ((left_of c d).slot ≡ s) × ((left_of c d).marked ≡ mark)
 
-  -- a slot was free, after those below it that were taken
-  abbrev pub IsFirstFree : Doing S (Option (Made S)) → ℕ → Doing S (Option (Made S)) → Type 0
-  IsFirstFree d s d' = d' ≡ record d { slots = held s None [] ∷ d.slots; tries = tried 9 s 0 ∷ scanned s d.tries }
-
-  -- each slot was taken
-  abbrev pub HasNoFree : Doing S (Option (Made S)) → ℕ → Doing S (Option (Made S)) → Type 0
-  HasNoFree d slots d' = d' ≡ record d { tries = scanned slots d.tries }
-
   -- the cell wasn't live, but in this state
   abbrev pub IsRefusedPin : Plan S (Option (Made S)) → Doing S (Option (Made S)) → ℕ → Seen → Doing S (Option (Made S)) → Type 0
   IsRefusedPin p d c state d' = Adds p d (event.Miss d.number c) d d' × (state ≡ seen_of ((after (start_of p) d'.seen).cells c))
@@ -115,7 +107,7 @@ module _ {S : Type 0} where
   -- What `gone` asks of a marked cell: the pass has the cell's lane, and where told its store stands for the frame.
   abbrev pub MaySave : Plan S (Option (Made S)) → Doing S (Option (Made S)) → ℕ → OwnLane S → Type 0
   MaySave p d c lane = (o : Taken S) × (d.lane ≡ Some o) × (lane.lane ≡ o.lane) × (lane_of p c ≡ o.lane)
-      × (IsTrue (p.shows o.store).told → StandsFor p (p.shows lane.store).held c ((after (start_of p) (left_of c d).at).arrays c))
+      × (IsTrue (p.shows o.store).told → StandsFor p (held_by (p.shows lane.store)) c ((after (start_of p) (left_of c d).at).arrays c))
 
   -- the lane is the pass's, and its store may come home
   abbrev pub MayReturn : Plan S (Option (Made S)) → Doing S (Option (Made S)) → OwnLane S → Type 0
@@ -133,10 +125,3 @@ AllSome (x ∷ xs) = IsSome x × AllSome xs
 pub record AreSettled {S M : Type 0} (p : Plan S M) (d : Doing S M) (stores : List S) : Type 0 where
   pub count : length stores ≡ length p.stores
   pub each : (l : ℕ) (first store : S) → get_elem? p.stores l ≡ some first → get_elem? stores l ≡ some store → Settled p d l first store
-
--- the state that a cell's word shows
-abbrev pub look_of : ℕ → Seen
-look_of n =
-    if (n / 33554432) % 4 == 0 then look.Absent else
-    if (n / 33554432) % 4 == 1 then look.Loading else
-    if (n / 33554432) % 4 == 2 then look.Live else look.Leaving

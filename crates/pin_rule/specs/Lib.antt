@@ -2,4 +2,8 @@ pub mod Parts
 pub mod Plans
 pub mod Calls
 pub mod Trails
+pub mod Shown
+pub mod Going
+pub mod Hands
+pub mod Saving
 pub mod Trying

@@ -26,7 +26,7 @@ plan_of shows (Some m) = record {
 }
 
 -- the limits of a cache
-pub record IsMade {S : Type 0} (m : Made S) : Type 0 where
+pub record IsPlanOf {S : Type 0} (m : Made S) : Type 0 where
   pub few_cells : cells_of m.levels.value ≤ 2 ^ 18
   pub few_slots : m.slots ≤ 4096
   pub some_slots : 2 ≤ m.slots
@@ -34,9 +34,11 @@ pub record IsMade {S : Type 0} (m : Made S) : Type 0 where
   pub some_lanes : 0 < length m.stores.value.items
   pub small_frame : frame_of m.levels.value ≤ 2 ^ 21
   pub fits : (c : ℕ) → c < cells_of m.levels.value → voxels_of m.levels.value c ≤ frame_of m.levels.value
+  -- the keys are those of its levels
+  pub keyed : m.keys.value.levels ≡ m.levels.value
 
 -- its words and homes have the size that the plan gives
 pub record IsTable {S : Type 0} (m : Made S) (words slots : ℕ) : Type 0 where
-  pub made : IsMade m
+  pub made : IsPlanOf m
   pub word_count : words ≡ 1 + cells_of m.levels.value + m.slots + length m.stores.value.items + m.slots * frame_of m.levels.value
   pub store_each : slots ≡ length m.stores.value.items

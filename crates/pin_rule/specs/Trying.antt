@@ -1,11 +1,7 @@
--- What a caller that works with one cell at a time says of its pass and of its table: the tests, and a program that times the calls.
+-- What a caller that works with one cell at a time says of its pass.
 use Rattle.std.specs.Prelude.{◌≡◌, ℕ, ◌≤◌, Bool, List, [], ◌∷◌, Some, None}
 use Rattle.arr_history.specs.declared.event.Event.{Event}
 use Rattle.cell_store.specs.Store.{Contents}
-use Rattle.cell_grid.specs.declared.level.Level.{Level}
-use Rattle.cell_grid.specs.declared.kind.Kind.TheVariants.{U8}
-use Rattle.cell_grid.specs.Pyramid.{voxels_of, kind_of}
-use Rattle.cell_file.specs.Keys.{KeyNames}
 use Rattle.pass_roster.specs.Ends.{AllJoined}
 use Rattle.pin_words.specs.declared.doing.Doing.{Doing}
 use Rattle.pin_words.specs.declared.lane.Taken.{Taken}
@@ -13,9 +9,7 @@ use Rattle.pin_words.specs.Words.{passes}
 use Rattle.pin_words.specs.Ends.{IsBare}
 use Rattle.pin_words.specs.Finding.{pin}
 use Rattle.pin_words.specs.Cells.{held, left}
-use Rattle.pin_rule.specs.declared.pins.Pins.{Pins}
 use Rattle.pin_rule.specs.Parts.{OwnLane}
-use Rattle.pin_rule.specs.Calls.{made_of, cell_count, slot_count, lane_count}
 
 -- it is the same to the roster
 abbrev pub SameRoster : {S M : Type 0} → Doing S M → Doing S M → Type 0
@@ -51,20 +45,6 @@ module _ {S M : Type 0} where
   pub record HasLane (shows : S → Contents) (l : ℕ) (lane : OwnLane S) (d : Doing S M) : Type 0 where
     pub number : lane.lane ≡ l
     pub taken : (o : Taken S) × (d.lane ≡ Some o) × (o.lane ≡ l) × ((shows o.store).faults ≤ (shows lane.store).faults)
-
--- the cell has eight voxels of one byte
-pub record IsSmall (levels : List Level) (c : ℕ) : Type 0 where
-  pub voxels : voxels_of levels c ≡ 8
-  pub kind : kind_of levels c ≡ U8
-
--- a table of three cells, two slots and one lane, over these levels, which knows the cells by these keys
-pub record IsTried {S : Type 0} (levels : List Level) (keys : KeyNames) (t : Pins S) : Type 0 where
-  pub over : (made_of t).levels.value ≡ levels
-  pub known : (made_of t).keys.value ≡ keys
-  pub alike : keys.levels ≡ levels
-  pub cells : cell_count t ≡ 3
-  pub slots : slot_count t ≡ 2
-  pub lanes : lane_count t ≡ 1
 
 -- the first pass of a table that was just made
 pub record IsFirst {S M : Type 0} (d : Doing S M) : Type 0 where

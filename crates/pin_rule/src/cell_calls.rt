@@ -1,9 +1,11 @@
 // The calls that turn a cell out.
-ghost use Rattle.std.specs.Prelude.{◌≡◌, ◌+◌, ◌*◌, ◌<◌, true, false, None, MatchResult, MatchOption};
+ghost use Rattle.std.specs.Prelude.{◌≡◌, ◌+◌, ◌*◌, ◌<◌, true, false, Some, None, MatchResult};
+ghost use Rattle.pin_words.specs.declared.lane.Taken.{Taken};
+ghost use Rattle.pin_words.specs.Plan.{lane_of};
 ghost use Rattle.pin_words.specs.Layout.{live_word};
 ghost use Rattle.pin_words.specs.Finding.{left_of};
 ghost use Rattle.pin_words.specs.Cells.{IsClosed, IsBusy, IsFrameNumber, IsGone, IsBack};
-ghost use Rattle.pin_rule.specs.Calls.{view, plan_at, cell_count, slot_count, voxel_count, IsPassOf, IsMyLeaving, MaySave};
+ghost use Rattle.pin_rule.specs.Calls.{view, plan_at, cell_count, slot_count, voxel_count, IsPassOf, IsMySlot, IsMyLeaving, MaySave};
 
 use crate::cell_steps::{LOADING, back_cell, close_cell, go_cell};
 use crate::fill_steps::look_at;
@@ -28,7 +30,7 @@ impl<S: Store> Pins<S> {
         requires pass { IsPassOf self.now pass.old }
         requires place { (cell < cell_count self.now) × (slot < slot_count self.now) }
         ensures pass { IsPassOf self.now pass.new }
-        ensures done { MatchResult result (λ l. (l.cell ≡ cell) × (l.slot ≡ slot) × (l.marked ≡ marked) × IsClosed (plan_at S.contents self.now) (view pass.old) cell slot marked (view pass.new)) (λ e. IsBusy (plan_at S.contents self.now) (view pass.old) cell slot marked e.word (view pass.new)) }
+        ensures done { MatchResult result (λ l. (l.cell ≡ cell) × (l.slot ≡ slot) × (l.marked ≡ marked) × IsMyLeaving (view pass.new) l.cell l.slot l.marked × IsClosed (plan_at S.contents self.now) (view pass.old) cell slot marked (view pass.new)) (λ e. IsBusy (plan_at S.contents self.now) (view pass.old) cell slot marked e.word (view pass.new)) }
     {
         let old = live_number(slot, marked);
         match close_cell(
@@ -66,13 +68,37 @@ impl<S: Store> Pins<S> {
         )
     }
 
-    /// Lets a closed cell go: a marked one only where the store of its lane stands for it. Its slot is the pass's then.
-    pub fn gone(&self, pass: &mut Pass<S>, l: Leaving, lane: Option<&Lane<S>>) -> Slot
+    /// Lets a closed cell go that isn't marked. Its slot is the pass's then.
+    pub fn gone_clean(&self, pass: &mut Pass<S>, l: Leaving) -> Slot
+        requires pass { IsPassOf self.now pass.old }
+        requires leaving { (l.cell < cell_count self.now) × (l.slot < slot_count self.now) × (l.marked ≡ false) × IsMyLeaving (view pass.old) l.cell l.slot l.marked }
+        ensures pass { IsPassOf self.now pass.new }
+        ensures slot { (result.slot ≡ l.slot) × (result.filled ≡ None) × IsMySlot (view pass.new) result.slot result.filled }
+        ensures done { IsGone (plan_at S.contents self.now) (view pass.old) l.cell (view pass.new) }
+    {
+        self.let_go(pass, l)
+    }
+
+    /// Lets a closed and marked cell go, for which the store of its lane stands. Its slot is the pass's then.
+    pub fn gone_saved(&self, pass: &mut Pass<S>, l: Leaving, lane: &Lane<S>) -> Slot
+        requires pass { IsPassOf self.now pass.old }
+        requires leaving { (l.cell < cell_count self.now) × (l.slot < slot_count self.now) × (l.marked ≡ true) × IsMyLeaving (view pass.old) l.cell l.slot l.marked }
+        requires lane { MaySave (plan_at S.contents self.now) (view pass.old) l.cell lane.now }
+        ensures pass { IsPassOf self.now pass.new }
+        ensures slot { (result.slot ≡ l.slot) × (result.filled ≡ None) × IsMySlot (view pass.new) result.slot result.filled }
+        ensures done { IsGone (plan_at S.contents self.now) (view pass.old) l.cell (view pass.new) }
+    {
+        let _lane = lane; // read for what its contract tells the proof
+        self.let_go(pass, l)
+    }
+
+    // Lets a closed cell go, whose lane the pass has where it is marked.
+    fn let_go(&self, pass: &mut Pass<S>, l: Leaving) -> Slot
         requires pass { IsPassOf self.now pass.old }
         requires leaving { (l.cell < cell_count self.now) × (l.slot < slot_count self.now) × IsMyLeaving (view pass.old) l.cell l.slot l.marked }
-        requires lane { MatchOption lane (l.marked ≡ false) (λ x. (l.marked ≡ true) × MaySave (plan_at S.contents self.now) (view pass.old) l.cell x.now) }
+        requires lane { l.marked ≡ true → (o : Taken _) × ((view pass.old).lane ≡ Some o) × (lane_of (plan_at S.contents self.now) l.cell ≡ o.lane) }
         ensures pass { IsPassOf self.now pass.new }
-        ensures slot { (result.slot ≡ l.slot) × (result.filled ≡ None) }
+        ensures slot { (result.slot ≡ l.slot) × (result.filled ≡ None) × IsMySlot (view pass.new) result.slot result.filled }
         ensures done { IsGone (plan_at S.contents self.now) (view pass.old) l.cell (view pass.new) }
     {
         let Leaving { cell, slot, marked } = l;

@@ -7,7 +7,7 @@ ghost use Rattle.pin_words.specs.Account.{filled};
 ghost use Rattle.pin_words.specs.Layout.{bit, live_word};
 ghost use Rattle.pin_words.specs.Finding.{has_claim};
 ghost use Rattle.pin_words.specs.Cells.{IsClaimed, IsTaken, IsDropped, IsPublished, IsClosed, IsBusy, IsGone, IsBack};
-ghost use Rattle.pin_rule.specs.Plans.{plan_of, IsMade};
+ghost use Rattle.pin_rule.specs.Plans.{plan_of, IsPlanOf};
 ghost use Rattle.pin_rule.specs.Calls.{SamePass, Rests, IsMySlot, IsMyLeaving};
 
 use crate::pin_steps::Place;
@@ -59,7 +59,7 @@ pub(crate) fn publish_cell<S: Store>(
 )
     requires seat { (seat.old.table_id ≡ words.now.table_id) × (1 + cell < words.now.table_id.words) }
     requires rests { Rests seat.old.me words.now.key }
-    requires made { IsMade words.now.key }
+    requires made { IsPlanOf words.now.key }
     requires number { number ≡ 33554432 + 1 + slot * 4294967296 }
     requires room { length seat.old.me.0.pins < 64 }
     requires claim { has_claim cell seat.old.me.0 ≡ true }
@@ -107,7 +107,7 @@ pub(crate) fn go_cell<S: Store>(
 )
     requires seat { (seat.old.table_id ≡ words.now.table_id) × (1 + cell < words.now.table_id.words) }
     requires rests { Rests seat.old.me words.now.key }
-    requires made { IsMade words.now.key }
+    requires made { IsPlanOf words.now.key }
     requires number { number ≡ 100663296 + 16777216 * bit marked + 4294967296 * slot }
     requires leaving { IsMyLeaving seat.old.me.0 cell slot marked }
     requires lane { marked ≡ true → (o : TakenLane _) × (seat.old.me.0.lane ≡ Some o) × (lane_of (plan_of S.contents (Some words.now.key)) cell ≡ o.lane) }
@@ -122,7 +122,7 @@ pub(crate) fn go_cell<S: Store>(
 pub(crate) fn back_cell<S: Store>(words: &Words<S>, seat: &mut Place<S>, cell: u32, slot: u32)
     requires seat { (seat.old.table_id ≡ words.now.table_id) × (1 + cell < words.now.table_id.words) }
     requires rests { Rests seat.old.me words.now.key }
-    requires made { IsMade words.now.key }
+    requires made { IsPlanOf words.now.key }
     requires leaving { IsMyLeaving seat.old.me.0 cell slot true }
     ensures seat { (seat.new.table_id ≡ seat.old.table_id) × (seat.new.id ≡ seat.old.id) × SamePass seat.old.me.0 seat.new.me.0 }
     ensures rests { Rests seat.new.me words.now.key }

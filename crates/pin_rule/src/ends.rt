@@ -6,8 +6,9 @@ ghost use Rattle.cell_grid.specs.Pyramid.{cells_of, frame_of, voxels_of};
 ghost use Rattle.pass_roster.specs.Ends.{AllJoined};
 ghost use Rattle.pin_words.specs.declared.doing.Stage.TheVariants.{Idle};
 ghost use Rattle.pin_words.specs.Words.{passes};
+ghost use Rattle.pin_words.specs.Tells.{HasSeen};
 ghost use Rattle.pin_words.specs.Ends.{starting, parent, child, IsBare, Rejoined};
-ghost use Rattle.pin_rule.specs.Plans.{plan_of, IsMade, IsTable};
+ghost use Rattle.pin_rule.specs.Plans.{plan_of, IsPlanOf, IsTable};
 ghost use Rattle.pin_rule.specs.Calls.{SamePass, view, plan_at, made_of, IsPassOf, Rests};
 
 use crate::made::Made;
@@ -37,6 +38,7 @@ impl<S: Store> Pins<S> {
         stores: Vec<S>,
     ) -> Result<(Pins<S>, Pass<S>), Unmade<S>>
         requires slots { (2 ≤ slots) × (slots ≤ 4096) }
+        requires keys { keys.now.levels ≡ geometry.now }
         requires frames { slots * frame_of geometry.now ≤ 2 ^ 24 }
         requires stores { (0 < length stores.items) × (length stores.items ≤ 16) }
         ensures pass { IfOk result (λ r. IsPassOf r.0 r.1 × (view r.1 ≡ starting (plan_at S.contents r.0))) }
@@ -90,7 +92,7 @@ impl<S: Store> Pins<S> {
     }
 
     /// Takes a pass that holds nothing into the first one, which adds its number, its events and its rises to `ended`. What
-    /// either had seen is a beginning of what the first has seen then.
+    /// either had seen is a beginning of what the first has seen then, which is legal and has all events of its own.
     pub fn join(&self, pass: &mut Pass<S>, other: Pass<S>)
         requires pass { IsPassOf self.now pass.old }
         requires other { IsPassOf self.now other }
@@ -98,6 +100,7 @@ impl<S: Store> Pins<S> {
         requires bare { IsBare (view other) }
         ensures pass { IsPassOf self.now pass.new }
         ensures joined { Rejoined (view pass.old) (view other) (view pass.new) }
+        ensures seen { HasSeen (plan_at S.contents self.now) (view pass.new) }
     {
         let other = other.into_seat();
         join_seats(&self.table.shared, &mut pass.seat, other);
@@ -113,7 +116,7 @@ fn open_table<S: Store>(
     made: &Made<S>,
     mut stores: Vec<S>,
 ) -> Result<(CellTable<S>, Place<S>, Vec<S>), Unmade<S>>
-    requires made { IsMade made.now }
+    requires made { IsPlanOf made.now }
     requires sizes { (cells ≡ cells_of made.now.levels.value) × (lanes ≡ length stores.items) × (frame ≡ frame_of made.now.levels.value) }
     requires stores { made.now.stores.value.items ≡ stores.items }
     requires frames { made.now.slots * frame ≤ 2 ^ 24 }
@@ -144,7 +147,7 @@ fn fill_table<S: Store>(
     homes: Vec<Option<S>>,
     made: &Made<S>,
 ) -> Result<(CellTable<S>, Place<S>), Vec<Option<S>>>
-    requires made { IsMade made.now }
+    requires made { IsPlanOf made.now }
     requires homes { homes.items ≡ map Some made.now.stores.value.items }
     requires words { words.now ≡ replicate (word_count (plan_of S.contents (Some made.now))) 0 }
     ensures table { IfOk result (λ r. (r.0.shared.key ≡ made.now) × (r.0.shared.table_id.words ≡ length words.now) × (r.0.shared.table_id.slots ≡ length homes.items)) }
@@ -189,7 +192,8 @@ fn join_seats<S: Store>(words: &Words<S>, seat: &mut Place<S>, other: Place<S>)
     ensures seat { (seat.new.table_id ≡ seat.old.table_id) × (seat.new.id ≡ seat.old.id) × SamePass seat.old.me.0 seat.new.me.0 }
     ensures rests { Rests seat.new.me words.now.key }
     ensures joined { Rejoined seat.old.me.0 other.me.0 seat.new.me.0 }
+    ensures seen { HasSeen (plan_of S.contents (Some words.now.key)) seat.new.me.0 }
 {
     words.join_seat::<Rejoin>(seat, other);
-    words.load::<Settle>(seat, 0);
+    words.load::<Settle<S>>(seat, 0);
 }

@@ -8,7 +8,7 @@ ghost use Rattle.pin_words.specs.Account.{filled_in};
 ghost use Rattle.pin_words.specs.Layout.{frame_at};
 ghost use Rattle.pin_words.specs.Finding.{has_claim, has_held, held_of, helds_without, left_of};
 ghost use Rattle.pin_words.specs.Cells.{Stores, Fills, IsFilled, IsDue, IsFrameNumber};
-ghost use Rattle.pin_rule.specs.Plans.{plan_of, IsMade};
+ghost use Rattle.pin_rule.specs.Plans.{plan_of, IsPlanOf};
 ghost use Rattle.pin_rule.specs.Calls.{SamePass, Rests, IsMyLeaving};
 
 use crate::pin_steps::Place;
@@ -27,7 +27,7 @@ pub(crate) fn store_number<S: Store>(
 )
     requires seat { (seat.old.table_id ≡ words.now.table_id) × (word < words.now.table_id.words) }
     requires rests { Rests seat.old.me words.now.key }
-    requires made { IsMade words.now.key }
+    requires made { IsPlanOf words.now.key }
     requires place { (word ≡ frame_at (plan_of S.contents (Some words.now.key)) slot at) × (at < frame_of words.now.key.levels.value) }
     requires held { (has_held slot seat.old.me.0 ≡ true) × (at ≤ length (held_of slot seat.old.me.0).words) }
     ensures seat { (seat.new.table_id ≡ seat.old.table_id) × (seat.new.id ≡ seat.old.id) × SamePass seat.old.me.0 seat.new.me.0 }
@@ -49,7 +49,7 @@ pub(crate) fn store_last<S: Store, W: About>(
 )
     requires seat { (seat.old.table_id ≡ words.now.table_id) × (word < words.now.table_id.words) }
     requires rests { Rests seat.old.me words.now.key }
-    requires made { IsMade words.now.key }
+    requires made { IsPlanOf words.now.key }
     requires place { (word ≡ frame_at (plan_of S.contents (Some words.now.key)) slot at) × (at < frame_of words.now.key.levels.value) × (at + 1 ≡ voxels_of words.now.key.levels.value cell) }
     requires claim { has_claim cell seat.old.me.0 ≡ true }
     requires held { (has_held slot seat.old.me.0 ≡ true) × (at ≤ length (held_of slot seat.old.me.0).words) × (filled_in cell (helds_without slot seat.old.me.0) ≡ 0) }
@@ -74,7 +74,7 @@ pub(crate) fn fill_frame<S: Store, W: About>(
 )
     requires seat { (seat.old.table_id ≡ words.now.table_id) × (first + length values.now ≤ words.now.table_id.words) }
     requires rests { Rests seat.old.me words.now.key }
-    requires made { IsMade words.now.key }
+    requires made { IsPlanOf words.now.key }
     requires place { first ≡ frame_at (plan_of S.contents (Some words.now.key)) slot 0 }
     requires claim { has_claim cell seat.old.me.0 ≡ true }
     requires held { (has_held slot seat.old.me.0 ≡ true) × (filled_in cell (helds_without slot seat.old.me.0) ≡ 0) }
@@ -105,7 +105,7 @@ pub(crate) fn look_at<S: Store, W: About>(
 ) -> u64
     requires seat { (seat.old.table_id ≡ words.now.table_id) × (word < words.now.table_id.words) }
     requires rests { Rests seat.old.me words.now.key }
-    requires made { IsMade words.now.key }
+    requires made { IsPlanOf words.now.key }
     requires place { (word ≡ frame_at (plan_of S.contents (Some words.now.key)) slot at) × (at < voxels_of words.now.key.levels.value cell) }
     requires leaving { IsMyLeaving seat.old.me.0 cell slot marked }
     requires picked { (W.pin.cell ≡ cell) × (W.at ≡ at) }

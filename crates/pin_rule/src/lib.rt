@@ -3,6 +3,7 @@
 
 mod cell_calls;
 mod cell_steps;
+mod cell_word;
 mod ends;
 mod fill_steps;
 mod handles;
@@ -19,12 +20,14 @@ mod refusals;
 mod slot_calls;
 mod slot_steps;
 mod stores;
-#[cfg(test)]
-mod tests;
 mod trail;
 
+pub use cell_word::CellWord;
 pub use handles::{Claim, Handle, Lane, Leaving, Slot};
-pub use laws::pins_cross_threads;
+pub use laws::{
+    gives_after_not_saving, gives_after_saving, goes_by_an_event, goes_by_seeing, goes_on,
+    holds_nothing, keeps_its_own, pins_cross_threads, stays_with_nothing,
+};
 pub use made::Made;
 pub use pass::Pass;
 pub use pins::Pins;

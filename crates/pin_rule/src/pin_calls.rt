@@ -1,14 +1,14 @@
 // The calls on pins.
 ghost use Rattle.std.specs.Prelude.{◌≡◌, ◌<◌, ◌≤◌, true, false, length, MatchResult, ⊤};
 ghost use Rattle.pin_words.specs.Pins.{IsPinned, IsUnpinned, IsMarked, IsRead, IsWritten};
-ghost use Rattle.pin_rule.specs.Calls.{view, plan_at, cell_count, voxel_count, greatest_in, IsPassOf, IsHeld, pin_of, IsRefusedPin, look_of};
+ghost use Rattle.pin_rule.specs.Calls.{view, plan_at, cell_count, voxel_count, greatest_in, IsPassOf, IsHeld, pin_of, IsRefusedPin};
 
+use crate::cell_word::CellWord;
 use crate::handles::Handle;
 use crate::pass::Pass;
-use crate::pin_steps::{STATE, leave, load_voxel, set_mark, store_voxel, visit};
+use crate::pin_steps::{leave, load_voxel, set_mark, store_voxel, visit};
 use crate::pins::Pins;
 use crate::refusals::NotLive;
-use arr_history::Seen;
 use cell_store::Store;
 use std::marker::Brand;
 
@@ -30,7 +30,7 @@ impl<S: Store> Pins<S> {
                 loaded: false,
             }),
             Err(word) => Err(NotLive {
-                state: state_in(word),
+                state: CellWord::of(word).state,
             }),
         }
     }
@@ -87,17 +87,5 @@ impl<S: Store> Pins<S> {
     {
         let word = self.frame_index(h.slot, at as usize);
         store_voxel::<S, Brand>(&self.table.shared, &mut pass.seat, h, at, word, value);
-    }
-}
-
-// The state that a cell's word shows.
-fn state_in(word: u64) -> Seen
-    ensures { result ≡ look_of word }
-{
-    match (word / STATE) % 4 {
-        0 => Seen::Absent,
-        1 => Seen::Loading,
-        2 => Seen::Live,
-        _ => Seen::Leaving,
     }
 }

@@ -7,7 +7,7 @@ ghost use Rattle.pin_words.specs.declared.doing.Stage.TheVariants.{Idle};
 ghost use Rattle.pin_words.specs.Finding.{pin as make_pin, has_pin};
 ghost use Rattle.pin_words.specs.Layout.{frame_at};
 ghost use Rattle.pin_words.specs.Pins.{IsPinned, IsMissed, IsUnpinned, IsMarked, IsRead, IsWritten};
-ghost use Rattle.pin_rule.specs.Plans.{plan_of, IsMade};
+ghost use Rattle.pin_rule.specs.Plans.{plan_of, IsPlanOf};
 ghost use Rattle.pin_rule.specs.Calls.{SamePass, Rests, pin_of};
 
 use crate::handles::Handle;
@@ -18,6 +18,8 @@ use atomic_table::Seat;
 use cell_store::Store;
 
 pub(crate) type Place<S> = Seat<Option<S>, View<S>>;
+
+pub(crate) const MARK: u64 = 1 << 24;
 
 pub(crate) const STATE: u64 = 1 << 25;
 
@@ -98,7 +100,7 @@ pub(crate) fn store_voxel<S: Store, W: About>(
 )
     requires seat { (seat.old.table_id ≡ words.now.table_id) × (word < words.now.table_id.words) }
     requires rests { Rests seat.old.me words.now.key }
-    requires made { IsMade words.now.key }
+    requires made { IsPlanOf words.now.key }
     requires held { (has_pin (pin_of h.now) seat.old.me.0 ≡ true) × (h.now.marked ≡ true) }
     requires place { (word ≡ frame_at (plan_of S.contents (Some words.now.key)) h.now.slot at) × (at < voxels_of words.now.key.levels.value h.now.cell) }
     requires value { value ≤ greatest_of (kind_of words.now.key.levels.value h.now.cell) }

@@ -37,6 +37,37 @@ impl<S: Store> Pins<S> {
     ghost use Rattle.pin_words.specs.Layout.{slot_at, lane_at, frame_at};
     ghost use Rattle.pin_rule.specs.Calls.{plan_at, slot_count, lane_count, made_of};
 
+    /// The levels of its pyramid.
+    pub fn geometry(&self) -> &Geometry
+        ensures { result.now ≡ (made_of self.now).levels.value }
+    {
+        &self.geometry
+    }
+
+    /// The keys of its cells, which are those of its levels.
+    pub fn keys(&self) -> &Keys
+        ensures same { result.now ≡ (made_of self.now).keys.value }
+        ensures levels { result.now.levels ≡ (made_of self.now).levels.value }
+    {
+        &self.keys
+    }
+
+    /// How many slots there are.
+    pub fn slots(&self) -> u32
+        ensures count { result ≡ slot_count self.now }
+        ensures some { (2 ≤ result) × (result ≤ 4096) }
+    {
+        self.slots as u32
+    }
+
+    /// How many lanes there are.
+    pub fn lanes(&self) -> u32
+        ensures count { result ≡ lane_count self.now }
+        ensures some { (0 < result) × (result ≤ 16) }
+    {
+        self.lanes as u32
+    }
+
     // The index of a slot's word.
     pub(crate) fn slot_index(&self, slot: u32) -> usize
         requires { slot < slot_count self.now }

@@ -267,12 +267,15 @@ impl<S: Store> Play<Option<S>, View<S>> for ComeBack<S> {
 }
 
 /// The load after a join.
-pub(crate) struct Settle;
+pub(crate) struct Settle<S> {
+    of: PhantomData<S>,
+}
 
-impl<S> Play<Option<S>, View<S>> for Settle {
+impl<S: Store> Play<Option<S>, View<S>> for Settle<S> {
     ghost use Rattle.pin_words.specs.Ends.{settled};
+    ghost use Rattle.pin_rule.specs.Plans.{plan_of};
 
-    ghost then = { settled };
+    ghost then = { settled (plan_of S.contents) };
 }
 
 /// A new pass.

@@ -2,8 +2,8 @@
 ghost use Rattle.std.specs.Prelude.{◌≡◌, ℕ, ◌<◌, ◌≤◌, true, false, Some, None, length, slice_index, MatchResult};
 ghost use Rattle.pin_words.specs.Account.{filled, filled_in};
 ghost use Rattle.pin_words.specs.Finding.{has_claim, helds_without};
-ghost use Rattle.pin_words.specs.Cells.{GivesSlot, IsClaimed, IsTaken, IsDropped, IsFilled, IsPublished};
-ghost use Rattle.pin_rule.specs.Calls.{view, plan_at, cell_count, slot_count, voxel_count, greatest_in, IsPassOf, IsMySlot, IsFirstFree, HasNoFree, MayFill};
+ghost use Rattle.pin_words.specs.Cells.{MissesSlots, TakesFirst, GivesSlot, IsClaimed, IsTaken, IsDropped, IsFilled, IsPublished};
+ghost use Rattle.pin_rule.specs.Calls.{view, plan_at, cell_count, slot_count, voxel_count, greatest_in, IsPassOf, IsHeld, IsMySlot, MayFill};
 
 use crate::cell_steps::{LOADING, claim_cell, drop_claim, publish_cell};
 use crate::fill_steps::fill_frame;
@@ -22,7 +22,7 @@ impl<S: Store> Pins<S> {
     pub fn try_slot(&self, pass: &mut Pass<S>) -> Result<Slot, NoFree>
         requires pass { IsPassOf self.now pass.old }
         ensures pass { IsPassOf self.now pass.new }
-        ensures done { MatchResult result (λ s. (s.slot < slot_count self.now) × (s.filled ≡ None) × IsFirstFree (view pass.old) s.slot (view pass.new)) (λ _. HasNoFree (view pass.old) (slot_count self.now) (view pass.new)) }
+        ensures done { MatchResult result (λ s. (s.slot < slot_count self.now) × (s.filled ≡ None) × IsMySlot (view pass.new) s.slot s.filled × TakesFirst (plan_at S.contents self.now) (view pass.old) s.slot (view pass.new)) (λ _. MissesSlots (plan_at S.contents self.now) (view pass.old) (slot_count self.now) (view pass.new)) }
     {
         match scan_slots(
             &self.table.shared,
@@ -52,7 +52,7 @@ impl<S: Store> Pins<S> {
         requires pass { IsPassOf self.now pass.old }
         requires cell { cell < cell_count self.now }
         ensures pass { IsPassOf self.now pass.new }
-        ensures done { MatchResult result (λ c. (c.cell ≡ cell) × IsClaimed (plan_at S.contents self.now) (view pass.old) cell (view pass.new)) (λ e. IsTaken (plan_at S.contents self.now) (view pass.old) cell e.word (view pass.new)) }
+        ensures done { MatchResult result (λ c. (c.cell ≡ cell) × (has_claim c.cell (view pass.new) ≡ true) × IsClaimed (plan_at S.contents self.now) (view pass.old) cell (view pass.new)) (λ e. IsTaken (plan_at S.contents self.now) (view pass.old) cell e.word (view pass.new)) }
     {
         match claim_cell(&self.table.shared, &mut pass.seat, cell) {
             Ok(()) => Ok(Claim { cell }),
@@ -82,10 +82,10 @@ impl<S: Store> Pins<S> {
         requires fits { (i : ℕ) → i < voxel_count self.now c.now.cell → slice_index values.now i ≤ greatest_in self.now c.now.cell }
         requires lane { MayFill (plan_at S.contents self.now) (view pass.old) c.now.cell lane.now values.now }
         ensures pass { IsPassOf self.now pass.new }
-        ensures slot { (s.new.slot ≡ s.old.slot) × (s.new.filled ≡ Some c.now.cell) }
+        ensures slot { (s.new.slot ≡ s.old.slot) × (s.new.filled ≡ Some c.now.cell) × IsMySlot (view pass.new) s.new.slot s.new.filled }
         ensures done { IsFilled (view pass.old) c.now.cell s.old.slot values.now (view pass.new) }
     {
-        let _some = self.geometry.voxels(c.cell);
+        let _some = self.geometry.voxels(c.cell); // read for what its contract tells the proof
         let first = self.frame_index(s.slot, 0);
         fill_frame::<S, Brand>(
             &self.table.shared,
@@ -105,7 +105,7 @@ impl<S: Store> Pins<S> {
         requires slot { (s.slot < slot_count self.now) × (s.filled ≡ Some c.cell) × IsMySlot (view pass.old) s.slot s.filled }
         requires room { length (view pass.old).pins < 64 }
         ensures pass { IsPassOf self.now pass.new }
-        ensures handle { (result.cell ≡ c.cell) × (result.slot ≡ s.slot) × (result.marked ≡ false) × (result.loaded ≡ true) }
+        ensures handle { (result.cell ≡ c.cell) × (result.slot ≡ s.slot) × (result.marked ≡ false) × (result.loaded ≡ true) × IsHeld self.now pass.new result }
         ensures done { IsPublished (plan_at S.contents self.now) (view pass.old) c.cell s.slot (view pass.new) }
     {
         let Claim { cell } = c;

@@ -64,7 +64,7 @@ fn shut<S: Store>(table: CellTable<S>, mut seat: Place<S>, list: &mut Vec<S>) ->
     requires table { IsTable table.shared.key table.shared.table_id.words table.shared.table_id.slots }
     requires rests { Rests seat.me table.shared.key }
     requires lone { IsLone seat.me.0 }
-    requires bare { seat.me.0.lane ≡ None }
+    requires bare { IsBare seat.me.0 }
     requires list { (list.old.items ≡ []) × (length table.shared.key.stores.value.items ≤ vec_capacity list.old) }
     ensures stores { AreSettled (plan_of S.contents (Some table.shared.key)) seat.me.0 list.new.items }
     ensures trail { events_of result ≡ seat.me.0.seen }

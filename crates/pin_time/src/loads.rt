@@ -108,7 +108,7 @@ pub fn turn_out(pins: &Pins<Quiet>, pass: &mut Pass<Quiet>, cell: u32, slot: u32
 {
     match close(pins, pass, cell, slot) {
         Some(leaving) => {
-            let slot = pins.gone(pass, leaving, None);
+            let slot = pins.gone_clean(pass, leaving);
             pins.give_slot(pass, slot);
             true
         }

@@ -75,7 +75,9 @@ pub fn table(alloc: Global, geometry: &Geometry) -> Option<(Pins<Quiet>, Pass<Qu
     }
 }
 
-fn keys(geometry: &Geometry) -> Option<Keys> {
+fn keys(geometry: &Geometry) -> Option<Keys>
+    ensures { IfSome result (λ k. k.levels ≡ geometry.now) }
+{
     if geometry.levels() != 1 || !is_root_name(b"vol") {
         return None;
     }

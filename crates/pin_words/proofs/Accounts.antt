@@ -22,6 +22,7 @@ use Rattle.pin_words.specs.Account.{one, times_in, lives_by, has_mark, WasMarked
 use Rattle.pin_words.specs.Cells.{change}
 use Rattle.pin_words.specs.Lanes.{taken}
 use Rattle.pin_words.proofs.Histories.{after_on, lives_on, saves_on, marked_on, Saves, steady, no_save}
+use Rattle.cell_store.specs.Store.{held_of}
 
 rose_fits : (a before now rises : ℕ) → (before < 2 ^ 64 - 1 → a + rises ≤ before) → before ≤ now → now < 2 ^ 64 - 1 → a + (rises + rose before now) ≤ now
 rose_fits a before now rises h up small = go (nat_le (min (before + 1) (2 ^ 64 - 1)) now) refl
@@ -83,9 +84,9 @@ module _ {S M : Type 0} (p : Plan S M) where
   }
     where
       go : (c : ℕ) → InLane p l c → is_void p c ≡ false → (b : Bool) → has_mark ((now o.at).cells c) ≡ b → cond b None (Some ((now o.at).arrays c)) ≡ Some ((now log).arrays c)
-          → StandsFor p (p.shows o.store).held c ((now log).arrays c)
+          → StandsFor p (held_of (p.shows o.store)) c ((now log).arrays c)
       go c m v true e q = absurd (let x : None ≡ Some ((now log).arrays c) = q in cc)
-      go c m v false e q = let x : (now o.at).arrays c ≡ (now log).arrays c = cc in subst (StandsFor p (p.shows o.store).held c) x ((k.stood y).arrays c m v e)
+      go c m v false e q = let x : (now o.at).arrays c ≡ (now log).arrays c = cc in subst (StandsFor p (held_of (p.shows o.store)) c) x ((k.stood y).arrays c m v e)
 
   -- the store as it is taken now
   pub known_taken : (l : ℕ) (x : S) (o : Taken S) (log : List Event) (views : List D) (ended : List Ended) → Known p l x o log views ended → o.changes ≡ [] → o.fills ≡ [] → Known p l x (taken o.lane o.store log) log views ended

@@ -19,7 +19,7 @@ use Rattle.pin_words.specs.declared.doing.Stage.TheVariants.{Idle}
 use Rattle.pin_words.specs.Plan.{Plan, shape_of, start_of}
 use Rattle.pin_words.specs.Account.{one, times_in, filled}
 use Rattle.pin_words.specs.Layout.{face}
-use Rattle.pin_words.specs.Words.{out_of, out, counts, in_slot, Each}
+use Rattle.pin_words.specs.Words.{out_of, out, times_left, doing_counts, in_slot, in_work, works, Each}
 use Rattle.pin_words.specs.Rule.{ClaimOk, Staged, HoldsOk, Ruled, Sat}
 use Rattle.pin_words.specs.Finding.{Picks, claims_without}
 use Rattle.pin_words.specs.Tells.{tried}
@@ -27,9 +27,10 @@ use Rattle.pin_words.specs.Cells as cells
 use Rattle.pin_words.specs.Cells.{held, left, change, noted, scanned, TakesSlot, MissesSlot, GivesSlot, Stores, Fills, IsFilled, Begun, IsClaimed, IsTaken, IsDropped, IsPublished, IsClosed, IsBusy, IsGone, IsBack, IsDue, IsFrameNumber}
 use Rattle.pin_words.proofs.Numbers.{put_same, one_same, one_else}
 use Rattle.pin_words.proofs.Lists.{picks_all, picks_total}
-use Rattle.pin_words.proofs.Keeping.{now}
+use Rattle.pin_words.proofs.Keeping.{now, given_stays}
 use Rattle.pin_words.proofs.Lone.{small, adds, sees, shows_cell}
-use Rattle.pin_words.proofs.Holds.{no_pin, no_claim, no_left, pins_stay, claims_stay, left_stay, holds_stay, number_in, shows_absent}
+use Rattle.pin_words.proofs.Found.{no_claim, no_left, number_in}
+use Rattle.pin_words.proofs.Holds.{no_pin, pins_stay, claims_stay, left_stay, holds_stay, shows_absent}
 use Rattle.pin_words.proofs.Moving.{Goes, cell_event, frames_cell, knowns_event, lanes_same, tries_only, retold}
 use Rattle.pin_words.proofs.Loading.{frames_loaded, loading_not_live, loading_not_leaving}
 
@@ -61,10 +62,12 @@ module _ {S M : Type 0} (p : Plan S M) (plan : M → Plan S M) (same_plan : plan
               stage = staged;
             }
             (λ f ne h. holds_stay p W c t W.pins f h (no_pin W p.cells c f.pins not_live h.each_pin) (not_loading f.number) (not_leaving f.number) (λ a. refl)) (λ k a ne. refl)
-            (let m = total_set (counts c) s.views id d w at in let same : counts c w ≡ counts c d = refl in let zero_q = dec.1 in omega arith) (λ a ne. refl)
+            (let m = total_set (doing_counts c) s.views id d w at in let same : doing_counts c w ≡ doing_counts c d = refl in let zero_q = dec.1 in omega arith) (λ a ne. refl)
+            (let i : in_work (W.cells c) ≡ 0 = ap in_work is in let o = one_same c in let f : works c w ≡ one c c + times_in c d.claims + times_left c d.leaving = refl in let g : works c d ≡ times_in c d.claims + times_left c d.leaving = refl in omega arith)
+            (λ a ne. let o = one_else c a (λ y. ne (sym y)) in let f : works a w ≡ one c a + times_in a d.claims + times_left a d.leaving = refl in let g : works a d ≡ times_in a d.claims + times_left a d.leaving = refl in omega arith)
             (λ l. let h : in_slot l (W.cells c) ≡ 0 = ap (in_slot l) is in omega arith) (λ l h. absurd (omega arith))
             (frames_cell p s r id d w c 33554432 t W.pins at inside (λ l h. absurd h) not_loading (λ h. h))
-            (lanes_same p s r id d w c 33554432 (r.log ++ e ∷ []) at inside refl (knowns_event p s r id d w e at (inside, is) (λ a h. h) (λ a. omega arith) refl)),
+            (lanes_same p s r id d w c 33554432 (r.log ++ e ∷ []) at inside refl (knowns_event p s r id d w e at (inside, is) (λ a h. h) (λ a. omega arith) refl) (given_stays p s r id d w r.parts.entry at lv (refl, refl, refl) refl (λ _. refl))),
         λ b b_is. retold p plan same_plan (λ q a. (me.1 ≡ me.1) × (n ≡ 0 → IsClaimed q d a w) × (n ≢ 0 → IsTaken q d a n w)) d.made ok.made c b b_is
             (refl, (λ _. adds p s r id d at lv (record d { claims = c ∷ d.claims; tries = tried 11 c 0 ∷ d.tries }) w e refl (inside, is) refl refl refl), λ miss. absurd (miss hit)),
       ))
@@ -99,7 +102,7 @@ module _ {S M : Type 0} (p : Plan S M) (plan : M → Plan S M) (same_plan : plan
       v = record d { seen = r.log; tries = tried 11 c n ∷ d.tries }
 
       q : ℕ
-      q = total (counts c) s.views
+      q = total (doing_counts c) s.views
 
       lv : out d ≡ 1
       lv = ap out_of idle
@@ -136,10 +139,12 @@ module _ {S M : Type 0} (p : Plan S M) (plan : M → Plan S M) (same_plan : plan
           stage = staged;
         }
         (λ f ne h. holds_stay p W c cell.Absent W.pins f h (no_pin W p.cells c f.pins not_live h.each_pin) (λ u. ne (ap number_in (sym u ∙ is))) (not_leaving f.number) (λ a. refl)) (λ k a ne. refl)
-        (down ∙ (let m = total_set (counts c) s.views id d w at in let same : counts c w ≡ counts c d = refl in omega arith)) (λ a ne. refl)
+        (down ∙ (let m = total_set (doing_counts c) s.views id d w at in let same : doing_counts c w ≡ doing_counts c d = refl in omega arith)) (λ a ne. refl)
+        (let i : in_work (W.cells c) ≡ 1 = ap in_work is in let o = one_same c in let f : times_in c d.claims ≡ one c c + times_in c cs = picks_total (λ (y : ℕ). one y c) has in let g : works c w ≡ times_in c cs + times_left c d.leaving = refl in let k : works c d ≡ times_in c d.claims + times_left c d.leaving = refl in omega arith)
+        (λ a ne. let o = one_else c a (λ y. ne (sym y)) in let f : times_in a d.claims ≡ one c a + times_in a cs = picks_total (λ (y : ℕ). one y a) has in let g : works a w ≡ times_in a cs + times_left a d.leaving = refl in let k : works a d ≡ times_in a d.claims + times_left a d.leaving = refl in omega arith)
         (λ l. let h : in_slot l (W.cells c) ≡ 0 = ap (in_slot l) is in omega arith) (λ l h. absurd (omega arith))
         (frames_loaded p s r id d w c x cell.Absent W.pins at lv inside is (λ l i h _ _. absurd h) (λ l i h _. absurd h) (λ l h _. absurd h) refl (r.parts.frames.held id d at) empty)
-        (lanes_same p s r id d w c x (r.log ++ e ∷ []) at inside refl (knowns_event p s r id d w e at legal (λ a h. h) (λ a. omega arith) refl)),
+        (lanes_same p s r id d w c x (r.log ++ e ∷ []) at inside refl (knowns_event p s r id d w e at legal (λ a h. h) (λ a. omega arith) refl) (given_stays p s r id d w r.parts.entry at lv (refl, refl, refl) refl (λ _. refl))),
     λ b b_is. retold p plan same_plan (λ q a. (me.1 ≡ me.1) × IsDropped q d a w) d.made ok.made c b b_is (refl, adds p s r id d at lv (record d { claims = cs }) w e refl legal refl refl refl),
   )
     where
@@ -165,7 +170,7 @@ module _ {S M : Type 0} (p : Plan S M) (plan : M → Plan S M) (same_plan : plan
       w = record d { seen = r.log ++ e ∷ []; mine = d.mine ++ e ∷ []; claims = cs }
 
       q : ℕ
-      q = total (counts c) s.views
+      q = total (doing_counts c) s.views
 
       lv : out d ≡ 1
       lv = ap out_of idle

@@ -19,18 +19,19 @@ use Rattle.pass_roster.proofs.Sums.{total_set}
 use Rattle.pin_words.specs.declared.doing.Doing.{Doing}
 use Rattle.pin_words.specs.declared.doing.Stage.TheVariants.{Idle}
 use Rattle.pin_words.specs.Plan.{Plan, shape_of, start_of}
-use Rattle.pin_words.specs.Account.{one, has_mark}
+use Rattle.pin_words.specs.Account.{one, times_in, has_mark}
 use Rattle.pin_words.specs.Layout.{bit, face, live_word}
-use Rattle.pin_words.specs.Words.{out_of, out, times_left, counts, in_slot}
+use Rattle.pin_words.specs.Words.{out_of, out, times_left, doing_counts, in_slot, in_work, works}
 use Rattle.pin_words.specs.Rule.{Staged, HoldsOk, Ruled, Sat}
 use Rattle.pin_words.specs.Tells.{tried}
 use Rattle.pin_words.specs.Cells as cells
 use Rattle.pin_words.specs.Cells.{held, left, change, noted, scanned, TakesSlot, MissesSlot, GivesSlot, Stores, Fills, IsFilled, Begun, IsClaimed, IsTaken, IsDropped, IsPublished, IsClosed, IsBusy, IsGone, IsBack, IsDue, IsFrameNumber}
 use Rattle.pin_words.proofs.Numbers.{put_same, one_same, one_else}
 use Rattle.pin_words.proofs.Histories.{after_on, marked_on, marked_once}
-use Rattle.pin_words.proofs.Keeping.{now}
+use Rattle.pin_words.proofs.Keeping.{now, given_stays}
 use Rattle.pin_words.proofs.Lone.{small, adds, sees, shows_cell}
-use Rattle.pin_words.proofs.Holds.{no_claim, no_left, changed, pins_stay, claims_stay, left_stay, holds_stay, shows_unpinned}
+use Rattle.pin_words.proofs.Found.{no_claim, no_left}
+use Rattle.pin_words.proofs.Holds.{changed, pins_stay, claims_stay, left_stay, holds_stay, shows_unpinned}
 use Rattle.pin_words.proofs.Moving.{Goes, cell_event, frames_cell, knowns_event, lanes_close, no_count, no_pins, tries_only, retold}
 
 module _ {S M : Type 0} (p : Plan S M) (plan : M → Plan S M) (same_plan : plan p.made ≡ p) where
@@ -73,10 +74,12 @@ module _ {S M : Type 0} (p : Plan S M) (plan : M → Plan S M) (same_plan : plan
               stage = staged;
             }
             (λ f ne h. holds_stay p W c t W.pins f h (h.pins c ∙ no_pins p s r c dec.1 f.number) (not_loading f.number) (not_leaving f.number) (λ a. refl)) (λ k a ne. refl)
-            (let m = total_set (counts c) s.views id d w at in let same : counts c w ≡ counts c d = refl in let zero_q = dec.1 in let f : face t ≡ 100663296 + 16777216 * bit b + 4294967296 * l = refl in omega arith) (λ a ne. refl)
+            (let m = total_set (doing_counts c) s.views id d w at in let same : doing_counts c w ≡ doing_counts c d = refl in let zero_q = dec.1 in let f : face t ≡ 100663296 + 16777216 * bit b + 4294967296 * l = refl in omega arith) (λ a ne. refl)
+            (let j : in_work (W.cells c) ≡ 0 = ap in_work is in let o = one_same c in let k : works c w ≡ times_in c d.claims + (one c c + times_left c d.leaving) = refl in let m : works c d ≡ times_in c d.claims + times_left c d.leaving = refl in omega arith)
+            (λ a ne. let o = one_else c a (λ y. ne (sym y)) in let k : works a w ≡ times_in a d.claims + (one c a + times_left a d.leaving) = refl in let m : works a d ≡ times_in a d.claims + times_left a d.leaving = refl in omega arith)
             (λ x. let h : in_slot x (W.cells c) ≡ one l x = ap (in_slot x) is in omega arith) (λ x h. r.parts.slots.low c x (subst (λ (u : CellState). 0 < in_slot x u) (sym is) h))
             (frames_cell p s r id d w c new t W.pins at inside (λ x h. subst (λ (u : CellState). HasSlot u x) (sym is) h) not_loading (λ h. h))
-            (lanes_close p s r id d w c new log' log' b at inside d.lane refl refl (λ y. ap has_mark new_state ∙ y) (knowns_event p s r id d w e at legal (λ a h. h) (λ a. omega arith) refl)),
+            (lanes_close p s r id d w c new log' log' b at inside d.lane refl refl (λ y. ap has_mark new_state ∙ y) (knowns_event p s r id d w e at legal (λ a h. h) (λ a. omega arith) refl) (given_stays p s r id d w r.parts.entry at lv (refl, refl, refl) refl (λ _. refl))),
         λ b' l' m' b_is l_is. retold_close (λ q c' l' k. (me.1 ≡ me.1) × (n ≡ live_word l' k → IsClosed q d c' l' k w) × (n ≢ live_word l' k → IsBusy q d c' l' k n w)) d.made ok.made c l b' l' b m' b_is l_is (
           refl,
           (λ _. (
@@ -121,7 +124,7 @@ module _ {S M : Type 0} (p : Plan S M) (plan : M → Plan S M) (same_plan : plan
       v = record d { seen = r.log; tries = tried 17 c n ∷ d.tries }
 
       q : ℕ
-      q = total (counts c) s.views
+      q = total (doing_counts c) s.views
 
       lv : out d ≡ 1
       lv = ap out_of idle

@@ -1,34 +1,41 @@
 -- The rule when a table is made, and what the stores are when it is closed.
-use Rattle.std.proofs.Common.{◌≡◌, ℕ, zero, suc, ◌+◌, ◌<◌, true, false, true≢false, List, [], ◌∷◌, length, get_or, map, replicate, sym, refl, ap, ◌∙◌, subst, Option, Some, None, arith}
+use Rattle.std.proofs.Common.{◌≡◌, ℕ, zero, suc, ◌+◌, ◌<◌, ◌≤◌, ◌==◌, true, false, true≢false, List, [], ◌∷◌, length, get_or, map, replicate, sym, refl, ap, ◌∙◌, subst, Option, Some, None, arith}
 use mathlib.Core.Option.{some, some-injective, some-ne-none}
 use mathlib.Core.Logic.{dite}
-use native.Mathlib.Decide.{ℕ_discrete}
+use native.Mathlib.Decide.{dec_le, ℕ_discrete}
 use lib.ListN.{get_elem?}
-use Rattle.std.specs.Prelude.{is_none}
+use Rattle.std.specs.Prelude.{is_none, unwrap_or, slice_index}
 use Rattle.atomic_table.specs.Table.{State as Table, opening as table_opening, Final, Seen}
-use Rattle.arr_history.specs.History.{AreLegal}
+use Rattle.arr_history.specs.declared.event.Event.{Event}
+use Rattle.arr_history.specs.declared.cell_state.CellState.{CellState}
+use Rattle.arr_history.specs.declared.cell_state.CellState.TheVariants as cell
+use Rattle.arr_history.specs.History.{after, AreLegal}
 use Rattle.pass_roster.specs.History.{total}
 use Rattle.pass_roster.proofs.Sums.{same_view}
 use Rattle.pass_roster.proofs.Endings.{roster_opens, roster_whole}
+use Rattle.pin_words.specs.declared.holding.Left.{Left}
 use Rattle.pin_words.specs.declared.lane.Taken.{Taken}
 use Rattle.pin_words.specs.declared.doing.Doing.{Doing}
 use Rattle.pin_words.specs.declared.doing.Stage.TheVariants.{Idle}
-use Rattle.pin_words.specs.Plan.{Plan, IsPlan, store_of, is_void, array_of, shape_of, start_of}
+use Rattle.pin_words.specs.Plan.{Plan, IsPlan, lane_of, shown, is_void, shape_of, start_of}
 use Rattle.pin_words.specs.Standing.{StandsFor, IsVoid}
-use Rattle.pin_words.specs.Account.{times_in, lives, saves, filled, saved_in, rise, rise_ended, InLane, Stood, Known}
+use Rattle.pin_words.specs.Account.{times_in, lives, times_saved, filled, saved_in, rise, rise_ended, InLane, Stood, Known}
 use Rattle.pin_words.specs.Layout.{slot_at, lane_at, word_count}
-use Rattle.pin_words.specs.Words.{out_of, out, passes, holding, in_slot, over, Each, HeldOk}
+use Rattle.pin_words.specs.Words.{out_of, out, passes, slots_held, in_slot, given_to, sum_over, Each, HeldOk}
 use Rattle.pin_words.specs.Rule.{HoldsOk, Ruled}
-use Rattle.pin_words.specs.Tells.{IsLone}
+use Rattle.pin_words.specs.Tells.{IsLone, IsOwnWork}
+use Rattle.pin_words.specs.Finding.{has_by}
 use Rattle.pin_words.specs.Lanes.{taken}
-use Rattle.pin_words.specs.Ends.{starting, Settled, IsHistory}
+use Rattle.pin_words.specs.Ends.{starting, IsBare, IsResting, Settled, IsHistory}
 use Rattle.pin_words.proofs.Numbers.{one_is}
 use Rattle.pin_words.proofs.Accounts.{clean_same, stands_now}
-use Rattle.pin_words.proofs.Lone.{lone_saw, lone_others, lone_rise}
+use Rattle.pin_words.proofs.Lone.{lone_saw, lone_others, lone_work, lone_rise}
 use Rattle.pin_words.proofs.Passing.{replicate_long}
-use Rattle.pin_words.specs.Plan.{standing_by}
+use Rattle.stood_arrays.specs.Opening.{store_in, stands_for}
+use Rattle.pin_words.proofs.Opened.{store_shown}
+use Rattle.cell_store.specs.Store.{held_of}
 
-over_none : (f : ℕ → ℕ) (n : ℕ) → ((a : ℕ) → f a ≡ 0) → over f n ≡ 0
+over_none : (f : ℕ → ℕ) (n : ℕ) → ((a : ℕ) → f a ≡ 0) → sum_over f n ≡ 0
 over_none f zero h = refl
 over_none f (suc n) h = let r = over_none f n h in let x = h n in omega arith
 
@@ -64,18 +71,18 @@ module _ {S M : Type 0} (p : Plan S M) where
   D = Doing S M
 
   -- what a store stands for at a cell of its lane when the table is made
-  opening_stands : (l c : ℕ) (y : S) → get_elem? p.stores l ≡ some y → InLane p l c → is_void p c ≡ false → StandsFor p (p.shows y).held c ((start_of p).arrays c)
-  opening_stands l c y is m v = go (p.standing (p.shows y).held c) refl
+  opening_stands : (l c : ℕ) (y : S) → get_elem? p.stores l ≡ some y → InLane p l c → is_void p c ≡ false → StandsFor p (held_of (p.shows y)) c ((start_of p).arrays c)
+  opening_stands l c y is m v = go (p.standing (held_of (p.shows y)) c) refl
     where
-      here : store_of p c ≡ some y
-      here = (λ i. get_elem? p.stores (m.1 i)) ∙ is
+      here : store_in (shown p) (lane_of p c) ≡ p.shows y
+      here = ap (store_in (shown p)) m.1 ∙ store_shown p.shows p.stores l y is
 
-      same : standing_by p (store_of p c) c ≡ p.standing (p.shows y).held c
-      same = λ i. standing_by p (here i) c
+      same : stands_for p.standing p.lanes (shown p) c ≡ p.standing (held_of (p.shows y)) c
+      same = λ i. p.standing (held_of (here i)) c
 
-      go : (o : Option (List ℕ)) → p.standing (p.shows y).held c ≡ o → StandsFor p (p.shows y).held c ((start_of p).arrays c)
+      go : (o : Option (List ℕ)) → p.standing (held_of (p.shows y)) c ≡ o → StandsFor p (held_of (p.shows y)) c ((start_of p).arrays c)
       go None e = absurd (true≢false ((λ i. is_none ((sym (same ∙ e)) i)) ∙ v))
-      go (Some values) e = (values, e, λ i l. λ k. array_of p (sym (same ∙ e) k) i)
+      go (Some values) e = (values, e, λ i l. λ k. slice_index (unwrap_or (sym (same ∙ e) k) []) i)
 
   -- the rule holds when a table is made: all words are 0, and each store is at home
   pub opens : (x : S) (ws : List ℕ) → IsPlan p → length ws ≡ word_count p → ((i : ℕ) → get_or ws i 0 ≡ 0) → Ruled p (table_opening ws (map (λ (y : S). Some y) p.stores) (starting p))
@@ -93,8 +100,8 @@ module _ {S M : Type 0} (p : Plan S M) where
       entry = λ l. taken l (nth x p.stores l) [];
       wide = wide;
       deep = homes_long p.stores ∙ ok_plan.store_each;
-      cells = record { each = λ c l. zeros (1 + c); beyond = λ c _. refl };
-      slots = record { each = λ s l. zeros (slot_at p s) ∙ (let o = over_none (λ c. in_slot s ((start_of p).cells c)) p.cells (λ a. refl) in let t : total (holding s) (d ∷ []) ≡ 0 = refl in omega arith); taken = λ s l. (let h = zeros (slot_at p s) in omega arith); low = λ c s h. absurd (omega arith) };
+      cells = record { each = λ c l. zeros (1 + c); beyond = λ c _. refl; worked = λ c _. refl };
+      slots = record { each = λ s l. zeros (slot_at p s) ∙ (let o = over_none (λ c. in_slot s ((start_of p).cells c)) p.cells (λ a. refl) in let t : total (slots_held s) (d ∷ []) ≡ 0 = refl in omega arith); taken = λ s l. (let h = zeros (slot_at p s) in omega arith); low = λ c s h. absurd (omega arith) };
       frames = record { each = λ c s i h _ _. absurd h; small = λ c s i h _. absurd h; clear = λ c s h _. absurd h; held = λ j f t. subst Held_All (alone j f t).1 tt };
       lanes = record {
         named = λ l _. refl;
@@ -113,6 +120,7 @@ module _ {S M : Type 0} (p : Plan S M) where
         gets = λ _ c _. (let q : total (filled c) (d ∷ []) ≡ 0 = refl in let n : lives c [] ≡ 0 = refl in omega arith);
         counted = λ _. (let q = no_rise p.lanes l in let t : total (rise l) (d ∷ []) ≡ get_or (replicate p.lanes 0) l 0 + 0 = refl in let u : total (rise_ended l) [] ≡ 0 = refl in omega arith);
       };
+      given = λ j f l z t _ _ last. absurd (none_given z (ap (given_to l) (ap (λ (v : D). v.given) (alone j f t).1) ∙ last));
     };
   }
     where
@@ -123,19 +131,22 @@ module _ {S M : Type 0} (p : Plan S M) where
       alone zero f t = (refl, some-injective d f t)
       alone (suc j) f t = absurd (some-ne-none f (sym t))
 
+      none_given : (z : S) → None ≡ Some z → ⊥
+      none_given z q = cc
+
       none_not : (o : Taken S) → None ≡ Some o → ⊥
       none_not o q = cc
 
       Held_All : D → Type 0
       Held_All v = Each (HeldOk p (start_of p) ws v.number) v.slots
 
-      opening_void : (l c : ℕ) (y : S) → get_elem? p.stores l ≡ some y → InLane p l c → is_void p c ≡ true → IsVoid p (p.shows y).held c
-      opening_void l c y is m v = go (p.standing (p.shows y).held c) refl
+      opening_void : (l c : ℕ) (y : S) → get_elem? p.stores l ≡ some y → InLane p l c → is_void p c ≡ true → IsVoid p (held_of (p.shows y)) c
+      opening_void l c y is m v = go (p.standing (held_of (p.shows y)) c) refl
         where
-          same : standing_by p (store_of p c) c ≡ p.standing (p.shows y).held c
-          same = λ i. standing_by p (((λ i. get_elem? p.stores (m.1 i)) ∙ is) i) c
+          same : stands_for p.standing p.lanes (shown p) c ≡ p.standing (held_of (p.shows y)) c
+          same = λ i. p.standing (held_of ((ap (store_in (shown p)) m.1 ∙ store_shown p.shows p.stores l y is) i)) c
 
-          go : (o : Option (List ℕ)) → p.standing (p.shows y).held c ≡ o → p.standing (p.shows y).held c ≡ None
+          go : (o : Option (List ℕ)) → p.standing (held_of (p.shows y)) c ≡ o → p.standing (held_of (p.shows y)) c ≡ None
           go None e = e
           go (Some values) e = absurd (true≢false (sym v ∙ (λ i. is_none ((same ∙ e) i))))
 
@@ -149,7 +160,8 @@ module _ {S M : Type 0} (p : Plan S M) where
       told = k.told;
       told_log = k.told_log;
       stood = λ t. subst (Stood p l (p.shows x) (p.shows o.store)) (sym saw_all) (stands_now p l x o r.log s.views r.ended k home.1 t);
-      puts = λ t c m. let q = k.puts t c m in let n : saved_in c o.changes ≡ 0 = ap (saved_in c) home.1 in let h : saves c v.seen ≡ saves c r.log = ap (saves c) saw_all in omega arith;
+      again = λ y last. r.parts.given id v l y at lv lone last;
+      puts = λ t c m. let q = k.puts t c m in let n : saved_in c o.changes ≡ 0 = ap (saved_in c) home.1 in let h : times_saved c v.seen ≡ times_saved c r.log = ap (times_saved c) saw_all in omega arith;
       gets = λ t c m. let q = k.gets t c m in let n : times_in c o.fills ≡ 0 = ap (times_in c) home.2 in let h : lives c v.seen ≡ lives c r.log = ap (lives c) saw_all in omega arith;
       counted = λ few. let q = k.counted few in let n = lone_rise p s r id v at lv lone l in let m : total (rise_ended l) v.ended ≡ total (rise_ended l) r.ended = ap (total (rise_ended l)) ((r.roster.each id v at lv).first lone.0).0 in omega arith;
     },
@@ -187,9 +199,18 @@ module _ {S M : Type 0} (p : Plan S M) where
       home : (get_elem? s.homes l ≡ some (some (Some o.store))) × (o.changes ≡ []) × (o.fills ≡ [])
       home = r.parts.lanes.home l inside (let b = r.parts.lanes.bit l inside in dite (ℕ_discrete (get_or s.words (lane_at p l) 0) 1) (λ e. absurd (not_away e)) (λ n. omega arith))
 
+  -- a bare pass has no cell in work
+  rests : (v : D) (c : ℕ) (t : CellState) → IsBare v → IsOwnWork v c t → IsResting t
+  rests v c cell.Absent bare h = tt
+  rests v c (cell.Live l m) bare h = tt
+  rests v c (cell.Loading k) bare h = absurd (true≢false (sym h.1 ∙ ap (has_by (λ n. n == c)) bare.claims))
+  rests v c (cell.Leaving k l m) bare h = absurd (true≢false (sym h.1 ∙ ap (has_by (λ (q : Left). q.cell == c)) bare.leaving))
+
   -- and what it has seen is the whole history, and legal
-  pub closes_history : (id : ℕ) (v : D) (ws : List ℕ) (xs : List (Option S)) → IsLone v → v.stage ≡ Idle → Final (Seen (Ruled p) id v) ws xs → IsHistory p v
-  closes_history id v ws xs lone idle fin = let s = fin.0 in let r = fin.1.0 in let at = fin.1.1 in let lv : out v ≡ 1 = ap out_of idle in record {
+  pub closes_history : (id : ℕ) (v : D) (ws : List ℕ) (xs : List (Option S)) → IsLone v → v.stage ≡ Idle → IsBare v → Final (Seen (Ruled p) id v) ws xs → IsHistory p v
+  closes_history id v ws xs lone idle bare fin = let s = fin.0 in let r = fin.1.0 in let at = fin.1.1 in let lv : out v ≡ 1 = ap out_of idle in record {
     whole = roster_whole passes r.log r.drawn r.ended s.views id v r.roster at lv lone.0 lone.1;
     legal = subst (AreLegal (shape_of p) (start_of p)) (sym (lone_saw p s r id v at lv lone)) r.legal;
+    rest = λ c. subst (λ (seen : List Event). IsResting ((after (start_of p) seen).cells c)) (sym (lone_saw p s r id v at lv lone))
+        (dite (dec_le (suc c) p.cells) (λ inside. rests v c ((after (start_of p) r.log).cells c) bare (lone_work p s r id v at lv lone c (omega arith))) (λ n. subst IsResting (sym (r.parts.cells.beyond c (omega arith))) tt));
   }

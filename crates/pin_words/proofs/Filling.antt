@@ -17,10 +17,10 @@ use Rattle.pin_words.specs.declared.holding.Left.{Left}
 use Rattle.pin_words.specs.declared.lane.Taken.{Taken}
 use Rattle.pin_words.specs.declared.doing.Doing.{Doing}
 use Rattle.pin_words.specs.declared.doing.Stage.TheVariants.{Idle}
-use Rattle.pin_words.specs.Plan.{Plan, IsPlan, lane_of, store_of, told_by, is_told, is_void, start_of}
+use Rattle.pin_words.specs.Plan.{Plan, IsPlan, lane_of, is_told, is_void, start_of}
 use Rattle.pin_words.specs.Account.{one, has_mark, filled_by, filled_in, filled, Known}
 use Rattle.pin_words.specs.Layout.{slot_at, lane_at, frame_at}
-use Rattle.pin_words.specs.Words.{out_of, out, times_held, counts, holding, Each, CellsOk, SlotsOk, FitsCell, HeldOk, FramesOk}
+use Rattle.pin_words.specs.Words.{out_of, out, times_held, doing_counts, slots_held, Each, CellsOk, SlotsOk, FitsCell, HeldOk, FramesOk, works}
 use Rattle.pin_words.specs.Rule.{ClaimOk, LeftOk, HoldsOk, Ruled, Sat}
 use Rattle.pin_words.specs.Finding.{Picks, claims_without, helds_without, left_of, lefts_without}
 use Rattle.pin_words.specs.Cells as cells
@@ -29,8 +29,9 @@ use Rattle.pin_words.proofs.Numbers.{one_same, one_else}
 use Rattle.pin_words.proofs.Accounts.{known_stays, known_fills}
 use Rattle.pin_words.proofs.Lists.{picks_all, picks_total}
 use Rattle.pin_words.proofs.Parts.{cells_stay, slots_stay}
-use Rattle.pin_words.proofs.LaneParts.{lanes_stay, lanes_note, knowns_put}
-use Rattle.pin_words.proofs.Keeping.{now, quiet}
+use Rattle.pin_words.proofs.LaneParts.{lanes_stay, lanes_note, given_put, knowns_put}
+use Rattle.pin_words.proofs.Keeping.{now, quiet, given_stays}
+use Rattle.pin_words.proofs.Opened.{told_there}
 use Rattle.pin_words.proofs.Places.{frame_below, frame_same, times_held_none, each_both, slot_low, held_here, no_cell, no_other_of_mine, no_other_pass}
 
 nth_kept : (xs ys : List ℕ) (j : ℕ) → j < length xs → get_or (xs ++ ys) j 0 ≡ get_or xs j 0
@@ -93,10 +94,10 @@ module _ {S M : Type 0} (p : Plan S M) (ok_plan : IsPlan p) where
         ∙ ((λ i. get_or (is i) j 0) ∙ (nth_kept kept rest j b ∙ sym (nth_kept kept (x ∷ []) j b)))))
 
   -- the other parts, at a store into a frame
-  stores_other : (s : St) (r : Ruled p s) (id : ℕ) (d w : D) (l i x : ℕ) → get_elem? s.views id ≡ some d → w.pins ≡ d.pins → w.stage ≡ d.stage → ((k : ℕ) → holding k w ≡ holding k d)
+  stores_other : (s : St) (r : Ruled p s) (id : ℕ) (d w : D) (l i x : ℕ) → get_elem? s.views id ≡ some d → w.pins ≡ d.pins → w.stage ≡ d.stage → ((k : ℕ) → slots_held k w ≡ slots_held k d) → ((k : ℕ) → works k w ≡ works k d)
       → CellsOk p (now p s r) (Frame s l i x) (set s.views id w) × SlotsOk p (now p s r) (Frame s l i x) (set s.views id w)
-  stores_other s r id d w l i x at pins' stage' same = (
-    cells_stay p (now p s r) (now p s r) s.words (Frame s l i x) s.views id d w r.parts.cells at (λ c h. get_or-set_other s.words (frame_at p l i) (1 + c) x 0 (λ e. omega arith)) (λ c. refl) (λ c k. counts c (record w { pins = pins' k; stage = stage' k })),
+  stores_other s r id d w l i x at pins' stage' same work = (
+    cells_stay p (now p s r) (now p s r) s.words (Frame s l i x) s.views id d w r.parts.cells at (λ c h. get_or-set_other s.words (frame_at p l i) (1 + c) x 0 (λ e. omega arith)) (λ c. refl) (λ c k. doing_counts c (record w { pins = pins' k; stage = stage' k })) work,
     slots_stay p (now p s r) (now p s r) s.words (Frame s l i x) s.views id d w r.parts.slots at (λ c h. get_or-set_other s.words (frame_at p l i) (slot_at p c) x 0 (λ e. omega arith)) (λ c. refl) same,
   )
 
@@ -125,7 +126,7 @@ module _ {S M : Type 0} (p : Plan S M) (ok_plan : IsPlan p) where
         (length-set s.words (frame_at p h.slot (length kept)) x) refl other.0 other.1
         (frames_fill s r id d at lv h hs has (length kept) x h' w near refl refl record { begins = begins_more s r id d at lv h hs has kept rest x begins near; fits = (let q = length-append kept (x ∷ []) in omega arith); filled = λ a f. absurd (let y : None ≡ Some a = f in cc) })
         r.parts.owner r.parts.entry (lanes_stay p r.parts.owner r.parts.entry s.words (Frame s h.slot (length kept) x) s.homes s.views id d w r.parts.lanes at (λ l b. get_or-set_other s.words (frame_at p h.slot (length kept)) (lane_at p l) x 0 (λ e. omega arith)) refl)
-        (λ l y is. known_stays p l y (r.parts.entry l) r.log s.views r.ended id d w (r.parts.known l y is) at (λ c _. fewer c) refl),
+        (λ l y is. known_stays p l y (r.parts.entry l) r.log s.views r.ended id d w (r.parts.known l y is) at (λ c _. fewer c) refl) (given_stays p s r id d w r.parts.entry at lv (refl, refl, refl) refl (λ _. refl)),
     (refl, refl),
   )
     where
@@ -154,15 +155,11 @@ module _ {S M : Type 0} (p : Plan S M) (ok_plan : IsPlan p) where
       fewer a = let f : filled_in a d.slots ≡ filled_by a h + filled_in a hs = picks_total (λ (y : Held). filled_by a y) has in let g : filled a w ≡ 0 + filled_in a hs = refl in omega arith
 
       other : CellsOk p (now p s r) (Frame s h.slot (length kept) x) (set s.views id w) × SlotsOk p (now p s r) (Frame s h.slot (length kept) x) (set s.views id w)
-      other = stores_other s r id d w h.slot (length kept) x at refl refl (λ k. let f : times_held k d.slots ≡ one h.slot k + times_held k hs = picks_total (λ (y : Held). one y.slot k) has in sym f)
+      other = stores_other s r id d w h.slot (length kept) x at refl refl (λ k. let f : times_held k d.slots ≡ one h.slot k + times_held k hs = picks_total (λ (y : Held). one y.slot k) has in sym f) (λ _. refl)
 
   -- the store of a told cell is the one of its lane
-  told_store : (c : ℕ) → IsTrue (is_told p c) → (x : S) × (store_of p c ≡ some x) × IsTrue (p.shows x).told
-  told_store c told = go (store_of p c) refl told
-    where
-      go : (o : maybe.Option S) → store_of p c ≡ o → IsTrue (told_by p o) → (x : S) × (store_of p c ≡ some x) × IsTrue (p.shows x).told
-      go maybe.none is t = absurd (true≢false (sym t))
-      go (maybe.some x) is t = (x, is, t)
+  told_store : (c : ℕ) → IsTrue (is_told p c) → (x : S) × (get_elem? p.stores (lane_of p c) ≡ some x) × IsTrue (p.shows x).told
+  told_store c told = told_there p.shows p.stores (lane_of p c) told
 
   -- the last store of a fill
   pub fills_word : (slots id : ℕ) (me : Sat S M) (c : ℕ) (h : Held) (kept rest : List ℕ) (x : ℕ) (o : Taken S) → me.0.stage ≡ Idle → Picks c (claims_without c me.0) me.0.claims → Picks h (helds_without h.slot me.0) me.0.slots → h.words ≡ kept ++ rest → length kept + 1 ≡ p.voxels c
@@ -198,7 +195,8 @@ module _ {S M : Type 0} (p : Plan S M) (ok_plan : IsPlan p) where
         (knowns_put p r.parts.entry o.lane n r.log (set s.views id w) r.ended
         (λ m y ne y_is. known_stays p m y (r.parts.entry m) r.log s.views r.ended id d w (r.parts.known m y y_is) at
         (λ a in_lane. let i = one_else c a (λ e. ne (sym in_lane.1 ∙ (ap (lane_of p) (sym e) ∙ lane_is))) in let f = was a in let g : filled a w ≡ one c a + filled_in a hs = refl in omega arith) refl)
-        (λ y y_is. known_fills p o.lane y o r.log s.views r.ended id d w c (known y y_is) at (λ a. let f = was a in let g : filled a w ≡ one c a + filled_in a hs = refl in omega arith) refl)),
+        (λ y y_is. known_fills p o.lane y o r.log s.views r.ended id d w c (known y y_is) at (λ a. let f = was a in let g : filled a w ≡ one c a + filled_in a hs = refl in omega arith) refl))
+        (given_put p r.parts.entry o.lane n (set s.views id w) (sym (ap (λ (v : Taken S). v.store) (r.parts.lanes.holds id d o at has_lane).3)) (given_stays p s r id d w r.parts.entry at lv (refl, refl, refl) refl (λ _. refl))),
     (refl, refl),
   )
     where
@@ -247,7 +245,7 @@ module _ {S M : Type 0} (p : Plan S M) (ok_plan : IsPlan p) where
           (u.0, λ i l. u.3 i l ∙ (λ m. a_is m i))
 
       other : CellsOk p (now p s r) (Frame s h.slot (length kept) x) (set s.views id w) × SlotsOk p (now p s r) (Frame s h.slot (length kept) x) (set s.views id w)
-      other = stores_other s r id d w h.slot (length kept) x at refl refl (λ k. let f : times_held k d.slots ≡ one h.slot k + times_held k hs = picks_total (λ (y : Held). one y.slot k) has in sym f)
+      other = stores_other s r id d w h.slot (length kept) x at refl refl (λ k. let f : times_held k d.slots ≡ one h.slot k + times_held k hs = picks_total (λ (y : Held). one y.slot k) has in sym f) (λ _. refl)
 
   -- a load from the frame of a closed cell
   pub looks_at : (plan : M → Plan S M) → plan p.made ≡ p → (slots id : ℕ) (me : Sat S M) (c i : ℕ) → me.0.stage ≡ Idle → Picks (left_of c me.0) (lefts_without c me.0) me.0.leaving → (left_of c me.0).cell ≡ c → i < p.voxels c

@@ -12,7 +12,7 @@ use Rattle.arr_history.specs.Next.{marked, leaving, returned, next}
 use Rattle.arr_history.specs.Legal.{IsLive, IsMarked, IsLeaving, IsLegal}
 use Rattle.arr_history.specs.History.{after, AreLegal}
 use Rattle.pass_roster.proofs.Sums.{total_snoc}
-use Rattle.pin_words.specs.Account.{lives_by, lives, saves_by, saves, WasMarked, has_mark}
+use Rattle.pin_words.specs.Account.{lives_by, lives, saves_by, times_saved, WasMarked, has_mark}
 use Rattle.pin_words.proofs.Numbers.{put_at, put_other, one_else}
 
 pub after_on : (s : State) (log : List Event) (e : Event) → after s (log ++ e ∷ []) ≡ next (after s log) e
@@ -26,7 +26,7 @@ legal_on b s (x ∷ xs) e h i = (h.0, legal_on b (next s x) xs e h.1 i)
 pub lives_on : (c : ℕ) (log : List Event) (e : Event) → lives c (log ++ e ∷ []) ≡ lives c log + lives_by c e
 lives_on c log e = total_snoc (lives_by c) log e
 
-pub saves_on : (c : ℕ) (log : List Event) (e : Event) → saves c (log ++ e ∷ []) ≡ saves c log + saves_by c e
+pub saves_on : (c : ℕ) (log : List Event) (e : Event) → times_saved c (log ++ e ∷ []) ≡ times_saved c log + saves_by c e
 saves_on c log e = total_snoc (saves_by c) log e
 
 pub marked_on : (c : ℕ) (xs ys : List Event) → WasMarked c xs → WasMarked c (xs ++ ys)
@@ -138,3 +138,8 @@ pub marked_once : (s : State) (log : List Event) (a : ℕ) → has_mark ((after 
 marked_once s [] a h = inl h
 marked_once s (e ∷ es) a h = ⊎_elim (λ (q : has_mark ((next s e).cells a) ≡ true). ⊎_elim (λ (r : has_mark (s.cells a) ≡ true). inl r) (λ (r : (k : ℕ) × (e ≡ Mark k a)). inr (r.0, [], es, λ i. r.1 i ∷ es)) (mark_source s e a q))
     (λ (q : WasMarked a es). inr (q.0, e ∷ q.1, q.2, λ i. e ∷ q.3 i)) (marked_once (next s e) es a h)
+
+-- the beginning of a legal history is legal
+pub legal_before : (b : Shape) (s : State) (xs ys : List Event) → AreLegal b s (xs ++ ys) → AreLegal b s xs
+legal_before b s [] ys h = tt
+legal_before b s (x ∷ xs) ys h = (h.0, legal_before b (next s x) xs ys h.1)

@@ -5,17 +5,16 @@ use native.Mathlib.Decide.{ℕ_discrete}
 use Rattle.arr_history.specs.declared.cell_state.CellState.{CellState}
 use Rattle.arr_history.specs.declared.cell_state.CellState.TheVariants as cell
 use Rattle.arr_history.specs.State.{State, with_at}
-use Rattle.arr_history.specs.Legal.{HasSlot}
 use Rattle.pin_words.specs.declared.holding.Pin.{Pin}
 use Rattle.pin_words.specs.declared.holding.Left.{Left}
 use Rattle.pin_words.specs.declared.doing.Doing.{Doing}
 use Rattle.pin_words.specs.Plan.{Plan, start_of}
 use Rattle.pin_words.specs.Account.{one, times_in}
 use Rattle.pin_words.specs.Layout.{bit, face}
-use Rattle.pin_words.specs.Words.{times, times_left, in_slot, Each}
+use Rattle.pin_words.specs.Words.{times, times_left, Each}
 use Rattle.pin_words.specs.Rule.{PinOk, ClaimOk, LeftOk, HoldsOk}
 use Rattle.pin_words.proofs.Numbers.{put_at, put_other, one_is, one_else}
-use Rattle.pin_words.proofs.Lone.{small}
+use Rattle.pin_words.proofs.Found.{no_claim, no_left}
 
 -- the pins once a pass has one more, or one fewer, on a cell
 abbrev pub pinned : (ℕ → ℕ → ℕ) → ℕ → ℕ → ℕ → ℕ → ℕ
@@ -45,14 +44,6 @@ unpinned_own f k c a some_on = dite (ℕ_discrete a c)
 pub no_pin : (w : State) (cells c : ℕ) (ps : List Pin) → ((s : ℕ) (m : Bool) → w.cells c ≡ cell.Live s m → ⊥) → Each (PinOk w cells) ps → times c ps ≡ 0
 no_pin w cells c [] n a = refl
 no_pin w cells c (p ∷ ps) n a = let r = no_pin w cells c ps n a.1 in let h : one p.cell c ≡ 0 = one_else p.cell c (λ e. n p.slot a.0.1.0 ((λ i. w.cells (sym e i)) ∙ a.0.1.1)) in omega arith
-
-pub no_claim : (w : State) (cells k c : ℕ) (cs : List ℕ) → (w.cells c ≡ cell.Loading k → ⊥) → Each (ClaimOk w cells k) cs → times_in c cs ≡ 0
-no_claim w cells k c [] n a = refl
-no_claim w cells k c (x ∷ xs) n a = let r = no_claim w cells k c xs n a.1 in let h = one_else x c (λ e. n ((λ i. w.cells (sym e i)) ∙ a.0.1)) in omega arith
-
-pub no_left : (start w : State) (cells k c : ℕ) (ps : List Left) → ((s : ℕ) (m : Bool) → w.cells c ≡ cell.Leaving k s m → ⊥) → Each (LeftOk start w cells k) ps → times_left c ps ≡ 0
-no_left start w cells k c [] n a = refl
-no_left start w cells k c (p ∷ ps) n a = let r = no_left start w cells k c ps n a.1 in let h : one p.cell c ≡ 0 = one_else p.cell c (λ e. n p.slot p.marked ((λ i. w.cells (sym e i)) ∙ a.0.1)) in omega arith
 
 abbrev pub changed : State → ℕ → CellState → (ℕ → ℕ → ℕ) → State
 changed w c t P = record { cells = with_at w.cells c t; pins = P; arrays = w.arrays }
@@ -93,11 +84,6 @@ holds_stay p w c t P f h none_here not_loading not_leaving same = record {
   stage = h.stage;
 }
 
-abbrev pub number_in : CellState → ℕ
-number_in (cell.Loading k) = k
-number_in (cell.Leaving k s m) = k
-number_in _ = 0
-
 pub bit_small : (m : Bool) → bit m ≤ 1
 bit_small true = omega arith
 bit_small false = omega arith
@@ -123,9 +109,3 @@ shows_unpinned (cell.Live t m) q s b e small = let x : ℕ = bit m in let y : �
     let x' : x ≤ 1 = bit_small m in let y' : y ≤ 1 = bit_small b in let same : t ≡ s = omega arith in let bits : x ≡ y = omega arith in ((λ i. cell.Live (same i) (bit_same m b bits i)), omega arith)
 shows_unpinned (cell.Leaving k t m) q s b e small = let x : ℕ = bit m in let y : ℕ = bit b in let e' : 100663296 + 16777216 * x + 4294967296 * t + q ≡ 67108864 + 16777216 * y + 4294967296 * s = e in
     let x' : x ≤ 1 = bit_small m in let y' : y ≤ 1 = bit_small b in absurd (omega arith)
-
-pub in_slot_is : (t : CellState) (s : ℕ) → HasSlot t s → in_slot s t ≡ 1
-in_slot_is cell.Absent s h = absurd h
-in_slot_is (cell.Loading k) s h = absurd h
-in_slot_is (cell.Live u m) s h = one_is u s h
-in_slot_is (cell.Leaving k u m) s h = one_is u s h

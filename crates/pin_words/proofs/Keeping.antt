@@ -18,13 +18,14 @@ use Rattle.pin_words.specs.declared.holding.Pin.{Pin}
 use Rattle.pin_words.specs.declared.holding.Held.{Held}
 use Rattle.pin_words.specs.declared.holding.Left.{Left}
 use Rattle.pin_words.specs.declared.lane.Taken.{Taken}
+use Rattle.pin_words.specs.declared.doing.Ended.{Ended}
 use Rattle.pin_words.specs.declared.doing.Doing.{Doing}
 use Rattle.pin_words.specs.declared.doing.Stage.{Stage}
 use Rattle.pin_words.specs.declared.doing.Stage.TheVariants.{Spent, Idle, Visiting, Joining}
 use Rattle.pin_words.specs.Plan.{Plan, shape_of, start_of}
 use Rattle.pin_words.specs.Account.{filled, rise}
 use Rattle.pin_words.specs.Layout.{slot_at, lane_at, frame_at}
-use Rattle.pin_words.specs.Words.{out_of, out, passes, counts, holding, Each, CellsOk, SlotsOk, HeldOk, FramesOk, LanesOk, Knowns}
+use Rattle.pin_words.specs.Words.{out_of, out, passes, IsLone, doing_counts, slots_held, works, given_to, Each, CellsOk, SlotsOk, HeldOk, FramesOk, LanesOk, GivenOk, Knowns}
 use Rattle.pin_words.specs.Rule.{Staged, HoldsOk, HoldsNone, Ruled}
 use Rattle.pin_words.specs.Cells.{claims}
 use Rattle.pin_words.proofs.Histories.{after_on, legal_on}
@@ -83,8 +84,8 @@ module _ {S M : Type 0} (p : Plan S M) where
       → ((k c : ℕ) → k ≢ d.number → (next (now s r) e).pins k c ≡ (now s r).pins k c)
       → length ws ≡ length s.words → length hs ≡ length s.homes
       → CellsOk p (next (now s r) e) ws (set s.views id w) → SlotsOk p (next (now s r) e) ws (set s.views id w) → FramesOk p (next (now s r) e) ws (set s.views id w)
-      → (owner : ℕ → ℕ) (entry : ℕ → Taken S) → LanesOk p owner entry ws hs (set s.views id w) → Knowns p entry (r.log ++ e ∷ []) (set s.views id w) r.ended → Rule record { words = ws; homes = hs; views = set s.views id w }
-  moved s r id d w e ws hs at lv live' same own mine seen legal mine_ok others nobody wide deep cells slots frames owner entry lanes known = record {
+      → (owner : ℕ → ℕ) (entry : ℕ → Taken S) → LanesOk p owner entry ws hs (set s.views id w) → Knowns p entry (r.log ++ e ∷ []) (set s.views id w) r.ended → GivenOk p entry (set s.views id w) → Rule record { words = ws; homes = hs; views = set s.views id w }
+  moved s r id d w e ws hs at lv live' same own mine seen legal mine_ok others nobody wide deep cells slots frames owner entry lanes known given = record {
     log = r.log ++ e ∷ [];
     drawn = r.drawn;
     ended = r.ended;
@@ -104,6 +105,7 @@ module _ {S M : Type 0} (p : Plan S M) where
       frames = subst (λ (v : State). FramesOk p v ws (set s.views id w)) (sym new) frames;
       lanes = lanes;
       known = known;
+      given = given;
     };
   }
     where
@@ -114,8 +116,8 @@ module _ {S M : Type 0} (p : Plan S M) where
   pub quiet : (s : St) (r : Rule s) (id : ℕ) (d w : D) (ws : List ℕ) (hs : List (maybe.Option (Option S))) → get_elem? s.views id ≡ some d → out d ≡ 1 → out w ≡ 1 → Keeps d w → w.mine ≡ d.mine → (w.seen ≡ r.log) ⊎ (w.seen ≡ d.seen)
       → HoldsOk p (now s r) w → length ws ≡ length s.words → length hs ≡ length s.homes
       → CellsOk p (now s r) ws (set s.views id w) → SlotsOk p (now s r) ws (set s.views id w) → FramesOk p (now s r) ws (set s.views id w)
-      → (owner : ℕ → ℕ) (entry : ℕ → Taken S) → LanesOk p owner entry ws hs (set s.views id w) → Knowns p entry r.log (set s.views id w) r.ended → Rule record { words = ws; homes = hs; views = set s.views id w }
-  quiet s r id d w ws hs at lv live' same mine seen mine_ok wide deep cells slots frames owner entry lanes known = record {
+      → (owner : ℕ → ℕ) (entry : ℕ → Taken S) → LanesOk p owner entry ws hs (set s.views id w) → Knowns p entry r.log (set s.views id w) r.ended → GivenOk p entry (set s.views id w) → Rule record { words = ws; homes = hs; views = set s.views id w }
+  quiet s r id d w ws hs at lv live' same mine seen mine_ok wide deep cells slots frames owner entry lanes known given = record {
     log = r.log;
     drawn = r.drawn;
     ended = r.ended;
@@ -124,8 +126,17 @@ module _ {S M : Type 0} (p : Plan S M) where
     holds = λ j f t o. ⊎_elim (λ (q : (j ≡ id) × (w ≡ f)). subst (HoldsOk p (now s r)) q.1 mine_ok) (λ (q : (j ≢ id) × (get_elem? s.views j ≡ some f)). r.holds j f q.1 o) (at_set s.views id j w f t);
     spent = spent_stay s r id d w at lv live' same.0;
     nobody = λ k c none_is. (nobody_stays s r id d w at lv live' same.0 k c none_is).0;
-    parts = record { owner = owner; entry = entry; wide = wide ∙ r.parts.wide; deep = deep ∙ r.parts.deep; cells = cells; slots = slots; frames = frames; lanes = lanes; known = known };
+    parts = record { owner = owner; entry = entry; wide = wide ∙ r.parts.wide; deep = deep ∙ r.parts.deep; cells = cells; slots = slots; frames = frames; lanes = lanes; known = known; given = given };
   }
+
+  -- the stores that were given back, where the pass at id gives none
+  pub given_stays : (s : St) (r : Rule s) (id : ℕ) (d w : D) (entry : ℕ → Taken S) → get_elem? s.views id ≡ some d → out d ≡ 1 → Keeps d w → w.given ≡ d.given → ((l : ℕ) → (entry l).store ≡ (r.parts.entry l).store) → GivenOk p entry (set s.views id w)
+  given_stays s r id d w entry at lv same given stores j f l x t o lone last = stores l ∙ ⊎_elim
+      (λ (q : (j ≡ id) × (w ≡ f)). r.parts.given id d l x at lv (was_lone (subst IsLone (sym q.1) lone)) (ap (given_to l) (sym given ∙ ap (λ (y : D). y.given) q.1) ∙ last))
+      (λ (q : (j ≢ id) × (get_elem? s.views j ≡ some f)). r.parts.given j f l x q.1 o lone last) (at_set s.views id j w f t)
+    where
+      was_lone : IsLone w → IsLone d
+      was_lone h = (sym same.0 ∙ h.0, sym same.2 ∙ (h.1 ∙ ap (λ (y : List Ended). length y + 1) same.1))
 
   -- another view has no slots or another number
   pub apart_from : (s : St) (r : Rule s) (id : ℕ) (d : D) → get_elem? s.views id ≡ some d → out d ≡ 1 → (j : ℕ) (f : D) → j ≢ id → get_elem? s.views j ≡ some f → (f.slots ≡ []) ⊎ (f.number ≢ d.number)
@@ -140,20 +151,20 @@ module _ {S M : Type 0} (p : Plan S M) where
   Shown s r ws views = CellsOk p (now s r) ws views × SlotsOk p (now s r) ws views × FramesOk p (now s r) ws views
 
   -- a view that differs from the old one in what no word shows
-  pub unseen : (s : St) (r : Rule s) (id : ℕ) (d w : D) → get_elem? s.views id ≡ some d → out d ≡ 1 → w.number ≡ d.number → w.slots ≡ d.slots → w.pins ≡ d.pins → w.stage ≡ d.stage → Shown s r s.words (set s.views id w)
-  unseen s r id d w at lv number slots pins stage = (
-    cells_stay p (now s r) (now s r) s.words s.words s.views id d w r.parts.cells at (λ c _. refl) (λ c. refl) (λ c i. counts c (record w { pins = pins i; stage = stage i })),
-    slots_stay p (now s r) (now s r) s.words s.words s.views id d w r.parts.slots at (λ c _. refl) (λ c. refl) (λ c i. holding c (record w { slots = slots i })),
+  pub unseen : (s : St) (r : Rule s) (id : ℕ) (d w : D) → get_elem? s.views id ≡ some d → out d ≡ 1 → w.number ≡ d.number → w.slots ≡ d.slots → w.pins ≡ d.pins → w.stage ≡ d.stage → ((c : ℕ) → works c w ≡ works c d) → Shown s r s.words (set s.views id w)
+  unseen s r id d w at lv number slots pins stage work = (
+    cells_stay p (now s r) (now s r) s.words s.words s.views id d w r.parts.cells at (λ c _. refl) (λ c. refl) (λ c i. doing_counts c (record w { pins = pins i; stage = stage i })) work,
+    slots_stay p (now s r) (now s r) s.words s.words s.views id d w r.parts.slots at (λ c _. refl) (λ c. refl) (λ c i. slots_held c (record w { slots = slots i })),
     frames_stay p (now s r) (now s r) s.words s.words s.views id d w r.parts.frames at (λ s i. refl) (λ c s h. h) (λ c. refl)
         (subst (λ (q : ℕ × List Held). Each (HeldOk p (now s r) s.words q.0) q.1) (λ i. (sym number i, sym slots i)) (r.parts.frames.held id d at)) (λ j f _ _. inr (λ c h. h)),
   )
 
   -- the same, where the word of a lane changes too
-  pub lane_word : (s : St) (r : Rule s) (id : ℕ) (d w : D) (l x : ℕ) → get_elem? s.views id ≡ some d → out d ≡ 1 → l < p.lanes → w.number ≡ d.number → w.slots ≡ d.slots → w.pins ≡ d.pins → w.stage ≡ d.stage
+  pub lane_word : (s : St) (r : Rule s) (id : ℕ) (d w : D) (l x : ℕ) → get_elem? s.views id ≡ some d → out d ≡ 1 → l < p.lanes → w.number ≡ d.number → w.slots ≡ d.slots → w.pins ≡ d.pins → w.stage ≡ d.stage → ((c : ℕ) → works c w ≡ works c d)
       → Shown s r (set s.words (lane_at p l) x) (set s.views id w)
-  lane_word s r id d w l x at lv inside number slots pins stage = (
-    cells_stay p (now s r) (now s r) s.words (set s.words (lane_at p l) x) s.views id d w r.parts.cells at (λ c h. get_or-set_other s.words (lane_at p l) (1 + c) x 0 (λ e. omega arith)) (λ c. refl) (λ c i. counts c (record w { pins = pins i; stage = stage i })),
-    slots_stay p (now s r) (now s r) s.words (set s.words (lane_at p l) x) s.views id d w r.parts.slots at (λ c h. get_or-set_other s.words (lane_at p l) (slot_at p c) x 0 (λ e. omega arith)) (λ c. refl) (λ c i. holding c (record w { slots = slots i })),
+  lane_word s r id d w l x at lv inside number slots pins stage work = (
+    cells_stay p (now s r) (now s r) s.words (set s.words (lane_at p l) x) s.views id d w r.parts.cells at (λ c h. get_or-set_other s.words (lane_at p l) (1 + c) x 0 (λ e. omega arith)) (λ c. refl) (λ c i. doing_counts c (record w { pins = pins i; stage = stage i })) work,
+    slots_stay p (now s r) (now s r) s.words (set s.words (lane_at p l) x) s.views id d w r.parts.slots at (λ c h. get_or-set_other s.words (lane_at p l) (slot_at p c) x 0 (λ e. omega arith)) (λ c. refl) (λ c i. slots_held c (record w { slots = slots i })),
     frames_stay p (now s r) (now s r) s.words (set s.words (lane_at p l) x) s.views id d w r.parts.frames at frame (λ c s h. h) (λ c. refl)
         (held_stay p (now s r) s.words (set s.words (lane_at p l) x) w.number w.slots frame (subst (λ (q : ℕ × List Held). Each (HeldOk p (now s r) s.words q.0) q.1) (λ i. (sym number i, sym slots i)) (r.parts.frames.held id d at))) (λ j f _ _. inr (λ c h. h)),
   )

@@ -15,7 +15,7 @@ use Rattle.pin_words.specs.declared.doing.Doing.{Doing}
 use Rattle.pin_words.specs.Plan.{Plan}
 use Rattle.pin_words.specs.Account.{Known}
 use Rattle.pin_words.specs.Layout.{lane_at}
-use Rattle.pin_words.specs.Words.{LanesOk, Knowns}
+use Rattle.pin_words.specs.Words.{LanesOk, GivenOk, Knowns}
 use Rattle.pin_words.proofs.Numbers.{put_same, put_at, put_other}
 
 module _ {S M : Type 0} (p : Plan S M) where
@@ -130,6 +130,12 @@ module _ {S M : Type 0} (p : Plan S M) where
 
       lane_is : (f : D) (u : Taken S) (j : ℕ) → j ≡ id → get_elem? views j ≡ some f → f.lane ≡ Some u → {m : ℕ} → u.lane ≡ m → m ≡ o.lane
       lane_is f u j q t h m = sym m ∙ ap (λ (v : Taken S). v.lane) (some_is u o (sym h ∙ (ap (λ (v : D). v.lane) (some-injective f d (sym t ∙ ((λ i. get_elem? views (q i)) ∙ at))) ∙ has)))
+
+  -- the stores that were given back, where an entry gets another one with the same store
+  pub given_put : (entry : ℕ → Taken S) (l : ℕ) (n : Taken S) (views : List D) → n.store ≡ (entry l).store → GivenOk p entry views → GivenOk p (with_at entry l n) views
+  given_put entry l n views same h j d m x t o lone last = dite (ℕ_discrete m l)
+      (λ q. ap (λ (v : Taken S). v.store) (put_at entry l n m q) ∙ (same ∙ ((λ i. (entry (sym q i)).store) ∙ h j d m x t o lone last)))
+      (λ q. ap (λ (v : Taken S). v.store) (put_other entry l n m q) ∙ h j d m x t o lone last)
 
   -- what is known of the other lanes' stores, and of this one's
   pub knowns_put : (entry : ℕ → Taken S) (l : ℕ) (n : Taken S) (log : List Event) (views : List D) (ended : List Ended)

@@ -19,19 +19,20 @@ use Rattle.pin_words.specs.declared.lane.Taken.{Taken}
 use Rattle.pin_words.specs.declared.doing.Doing.{Doing}
 use Rattle.pin_words.specs.declared.doing.Stage.TheVariants.{Idle}
 use Rattle.pin_words.specs.Plan.{Plan, IsPlan, lane_of, shape_of, start_of}
-use Rattle.pin_words.specs.Account.{one, filled_in, filled}
+use Rattle.pin_words.specs.Account.{one, times_in, filled_in, filled}
 use Rattle.pin_words.specs.Layout.{bit, face}
-use Rattle.pin_words.specs.Words.{out_of, out, times_left, counts, holding, in_slot, Each}
+use Rattle.pin_words.specs.Words.{out_of, out, times_left, doing_counts, slots_held, in_slot, in_work, works, Each}
 use Rattle.pin_words.specs.Rule.{LeftOk, Staged, HoldsOk, Ruled, Sat}
 use Rattle.pin_words.specs.Finding.{Picks, left_of, lefts_without}
 use Rattle.pin_words.specs.Cells as cells
 use Rattle.pin_words.specs.Cells.{held, left, change, noted, scanned, TakesSlot, MissesSlot, GivesSlot, Stores, Fills, IsFilled, Begun, IsClaimed, IsTaken, IsDropped, IsPublished, IsClosed, IsBusy, IsGone, IsBack, IsDue, IsFrameNumber}
-use Rattle.pin_words.proofs.Numbers.{one_same, one_is}
+use Rattle.pin_words.proofs.Numbers.{one_same, one_is, one_else}
 use Rattle.pin_words.proofs.Histories.{marked_is, Saves}
 use Rattle.pin_words.proofs.Lists.{picks_all, picks_total}
-use Rattle.pin_words.proofs.Keeping.{now}
+use Rattle.pin_words.proofs.Keeping.{now, given_stays}
 use Rattle.pin_words.proofs.Lone.{small, adds}
-use Rattle.pin_words.proofs.Holds.{no_pin, no_claim, changed, pins_stay, claims_stay, left_stay, holds_stay, number_in, bit_small}
+use Rattle.pin_words.proofs.Found.{no_claim, number_in}
+use Rattle.pin_words.proofs.Holds.{no_pin, changed, pins_stay, claims_stay, left_stay, holds_stay, bit_small}
 use Rattle.pin_words.proofs.Moving.{cell_event, frames_cell, knowns_event, Lanes, lanes_same, lanes_save, retold}
 
 module _ {S M : Type 0} (p : Plan S M) (ok_plan : IsPlan p) (plan : M → Plan S M) (same_plan : plan p.made ≡ p) where
@@ -104,8 +105,10 @@ module _ {S M : Type 0} (p : Plan S M) (ok_plan : IsPlan p) (plan : M → Plan S
     cell_event p s r id d w e c x cell.Absent W.pins at lv lv (refl, refl, refl) refl refl refl legal inside refl
         (own_holds s r id d c at lv has c_is cell.Absent (held l.slot None [] ∷ d.slots) (noted l.marked (change c true l.at) d.lane) w.seen w.mine (left_low s r id d c at lv has c_is, ok.each_slot) (λ a. let o = ok.once_filled a in let f : filled_in a (held l.slot None [] ∷ d.slots) ≡ 0 + filled a d = refl in omega arith) idle)
         (left_holds s r id d c at lv has c_is cell.Absent) (λ j a ne. refl)
-        (back ∙ (let m = total_set (counts c) s.views id d w at in let same : counts c w ≡ counts c d = refl in omega arith)) (λ a ne. refl)
-        (λ y. let h : in_slot y (W.cells c) ≡ one l.slot y = ap (in_slot y) is in let f : holding y w ≡ one l.slot y + holding y d = refl in omega arith) (λ y h. absurd (omega arith))
+        (back ∙ (let m = total_set (doing_counts c) s.views id d w at in let same : doing_counts c w ≡ doing_counts c d = refl in omega arith)) (λ a ne. refl)
+        (let j : in_work (W.cells c) ≡ 1 = ap in_work is in let o = one_is l.cell c c_is in let f : times_left c d.leaving ≡ one l.cell c + times_left c (lefts_without c d) = picks_total (λ (y : Left). one y.cell c) has in let k : works c w ≡ times_in c d.claims + times_left c (lefts_without c d) = refl in let m : works c d ≡ times_in c d.claims + times_left c d.leaving = refl in omega arith)
+        (λ a ne. let o = one_else l.cell a (λ y. ne (sym y ∙ c_is)) in let f : times_left a d.leaving ≡ one l.cell a + times_left a (lefts_without c d) = picks_total (λ (y : Left). one y.cell a) has in let k : works a w ≡ times_in a d.claims + times_left a (lefts_without c d) = refl in let m : works a d ≡ times_in a d.claims + times_left a d.leaving = refl in omega arith)
+        (λ y. let h : in_slot y (W.cells c) ≡ one l.slot y = ap (in_slot y) is in let f : slots_held y w ≡ one l.slot y + slots_held y d = refl in omega arith) (λ y h. absurd (omega arith))
         (frames_cell p s r id d w c x cell.Absent W.pins at inside (λ y h. absurd h) (left_not_loading s r id d c at lv has c_is) (λ h. (record { begins = λ i b. absurd (omega arith); fits = omega arith; filled = λ a f. absurd (let y : None ≡ Some a = f in cc) }, h)))
         (lanes l.marked refl),
     λ b b_is. retold p plan same_plan (λ q a. (me.1 ≡ me.1) × IsGone q d a w) d.made ok.made c b b_is
@@ -134,7 +137,7 @@ module _ {S M : Type 0} (p : Plan S M) (ok_plan : IsPlan p) (plan : M → Plan S
       w = record d { seen = r.log ++ e ∷ []; mine = d.mine ++ e ∷ []; leaving = lefts_without c d; slots = held l.slot None [] ∷ d.slots; lane = noted l.marked (change c true l.at) d.lane }
 
       total_c : ℕ
-      total_c = total (counts c) s.views
+      total_c = total (doing_counts c) s.views
 
       lv : out d ≡ 1
       lv = ap out_of idle
@@ -159,10 +162,10 @@ module _ {S M : Type 0} (p : Plan S M) (ok_plan : IsPlan p) (plan : M → Plan S
 
       lanes : (b : Bool) → l.marked ≡ b → Lanes p s r (set s.words (1 + c) x) (r.log ++ e ∷ []) (set s.views id w)
       lanes false b_is = lanes_same p s r id d w c x (r.log ++ e ∷ []) at inside (ap (λ (b : Bool). noted b (change c true l.at) d.lane) b_is)
-          (knowns_event p s r id d w e at legal (λ a h. subst (λ (b : Bool). Saves a (event.Gone d.number c b)) b_is h) (λ a. omega arith) refl)
+          (knowns_event p s r id d w e at legal (λ a h. subst (λ (b : Bool). Saves a (event.Gone d.number c b)) b_is h) (λ a. omega arith) refl) (given_stays p s r id d w r.parts.entry at lv (refl, refl, refl) refl (λ _. refl))
       lanes true b_is = let o = has_lane b_is in let e_is : event.Gone d.number c true ≡ e = (λ i. event.Gone d.number c (sym b_is i)) in
           subst (λ (y : Event). Lanes p s r (set s.words (1 + c) x) (r.log ++ y ∷ []) (set s.views id w)) e_is (lanes_save p s r id d w c x d.number l.at at inside o.0 o.1 ((λ i. noted (b_is i) (change c true l.at) (o.1 i))) o.2
-          (subst (IsLegal (shape_of p) W) (sym e_is) legal) (left_frozen s r id d c at lv has c_is) (λ a. omega arith) refl)
+          (subst (IsLegal (shape_of p) W) (sym e_is) legal) (left_frozen s r id d c at lv has c_is) (λ a. omega arith) refl (given_stays p s r id d w r.parts.entry at lv (refl, refl, refl) refl (λ _. refl)))
 
   -- A marked cell is live again.
   pub backs_cell : (slots id : ℕ) (me : Sat S M) (c : ℕ) → me.0.stage ≡ Idle → Picks (left_of c me.0) (lefts_without c me.0) me.0.leaving → (left_of c me.0).cell ≡ c → (left_of c me.0).marked ≡ true
@@ -174,10 +177,12 @@ module _ {S M : Type 0} (p : Plan S M) (ok_plan : IsPlan p) (plan : M → Plan S
     cell_event p s r id d w e c x t W.pins at lv lv (refl, refl, refl) refl refl refl legal inside after_is
         (own_holds s r id d c at lv has c_is t d.slots d.lane w.seen w.mine ok.each_slot ok.once_filled idle)
         (left_holds s r id d c at lv has c_is t) (λ j a ne. refl)
-        (back ∙ (let m = total_set (counts c) s.views id d w at in let same : counts c w ≡ counts c d = refl in omega arith)) (λ a ne. refl)
+        (back ∙ (let m = total_set (doing_counts c) s.views id d w at in let same : doing_counts c w ≡ doing_counts c d = refl in omega arith)) (λ a ne. refl)
+        (let j : in_work (W.cells c) ≡ 1 = ap in_work is in let o = one_is l.cell c c_is in let f : times_left c d.leaving ≡ one l.cell c + times_left c (lefts_without c d) = picks_total (λ (y : Left). one y.cell c) has in let k : works c w ≡ times_in c d.claims + times_left c (lefts_without c d) = refl in let m : works c d ≡ times_in c d.claims + times_left c d.leaving = refl in omega arith)
+        (λ a ne. let o = one_else l.cell a (λ y. ne (sym y ∙ c_is)) in let f : times_left a d.leaving ≡ one l.cell a + times_left a (lefts_without c d) = picks_total (λ (y : Left). one y.cell a) has in let k : works a w ≡ times_in a d.claims + times_left a (lefts_without c d) = refl in let m : works a d ≡ times_in a d.claims + times_left a d.leaving = refl in omega arith)
         (λ y. let h : in_slot y (W.cells c) ≡ one l.slot y = ap (in_slot y) is in omega arith) (λ y h. r.parts.slots.low c y (subst (λ (u : CellState). 0 < in_slot y u) (sym is) h))
         (frames_cell p s r id d w c x t W.pins at inside (λ y h. subst (λ (u : CellState). HasSlot u y) (sym is) h) (left_not_loading s r id d c at lv has c_is) (λ h. h))
-        (lanes_same p s r id d w c x (r.log ++ e ∷ []) at inside refl (knowns_event p s r id d w e at legal (λ a h. h) (λ a. omega arith) refl)),
+        (lanes_same p s r id d w c x (r.log ++ e ∷ []) at inside refl (knowns_event p s r id d w e at legal (λ a h. h) (λ a. omega arith) refl) (given_stays p s r id d w r.parts.entry at lv (refl, refl, refl) refl (λ _. refl))),
     λ b b_is. retold p plan same_plan (λ q a. (me.1 ≡ me.1) × IsBack q d a w) d.made ok.made c b b_is (refl, adds p s r id d at lv (record d { leaving = lefts_without c d }) w e refl legal refl refl refl),
   )
     where
@@ -206,7 +211,7 @@ module _ {S M : Type 0} (p : Plan S M) (ok_plan : IsPlan p) (plan : M → Plan S
       w = record d { seen = r.log ++ e ∷ []; mine = d.mine ++ e ∷ []; leaving = lefts_without c d }
 
       total_c : ℕ
-      total_c = total (counts c) s.views
+      total_c = total (doing_counts c) s.views
 
       lv : out d ≡ 1
       lv = ap out_of idle

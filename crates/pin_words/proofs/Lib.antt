@@ -1,3 +1,4 @@
+pub mod Opened
 pub mod Numbers
 pub mod Histories
 pub mod Accounts
@@ -6,6 +7,7 @@ pub mod Parts
 pub mod Frames
 pub mod LaneParts
 pub mod Keeping
+pub mod Found
 pub mod Lone
 pub mod Taking
 pub mod Holds
@@ -20,6 +22,7 @@ pub mod Pinning
 pub mod Places
 pub mod Writing
 pub mod Slots
+pub mod Scanning
 pub mod Filling
 pub mod Passing
 pub mod Ending

@@ -20,7 +20,8 @@ use Rattle.pin_words.specs.Rule.{Ruled}
 use Rattle.pin_words.proofs.Numbers.{put_at, put_other, one_is}
 use Rattle.pin_words.proofs.Frames.{held_on}
 use Rattle.pin_words.proofs.Keeping.{now, apart_from}
-use Rattle.pin_words.proofs.Holds.{changed, number_in}
+use Rattle.pin_words.proofs.Found.{number_in}
+use Rattle.pin_words.proofs.Holds.{changed}
 
 module _ {S M : Type 0} (p : Plan S M) where
   abbrev D : Type 0

@@ -10,7 +10,7 @@ use Rattle.atomic_table.specs.Table.{State as Table, step, keeps, Allows, Splits
 use Rattle.atomic_table.proofs.Lists.{at_set, set_here, set_else, set_again, at_longer}
 use Rattle.arr_history.specs.declared.event.Event.{Event}
 use Rattle.arr_history.specs.State.{State}
-use Rattle.arr_history.specs.History.{after}
+use Rattle.arr_history.specs.History.{after, AreLegal}
 use Rattle.pass_roster.specs.History.{StartsWith, longer}
 use Rattle.pass_roster.specs.Roster.{SomeOut}
 use Rattle.pass_roster.proofs.Sums.{total_set, total_snoc, at_end, within, same_view}
@@ -21,15 +21,17 @@ use Rattle.pin_words.specs.declared.doing.Ended.{Ended}
 use Rattle.pin_words.specs.declared.doing.Doing.{Doing}
 use Rattle.pin_words.specs.declared.doing.Stage.{Stage}
 use Rattle.pin_words.specs.declared.doing.Stage.TheVariants.{Idle, Joining}
-use Rattle.pin_words.specs.Plan.{Plan, start_of}
-use Rattle.pin_words.specs.Account.{filled_in, filled, rise, rise_ended}
-use Rattle.pin_words.specs.Words.{out_of, out, passes, times, times_held, visits, counts, holding, Each, HeldOk, Knowns, Parts}
+use Rattle.pin_words.specs.Plan.{Plan, shape_of, start_of}
+use Rattle.pin_words.specs.Account.{filled_in, filled, rise, rise_ended, times_in}
+use Rattle.pin_words.specs.Words.{out_of, out, passes, times, times_held, visits, doing_counts, slots_held, Each, HeldOk, Knowns, Parts, IsLone, works, times_left, given_to}
 use Rattle.pin_words.specs.Rule.{Staged, HoldsOk, HoldsNone, Ruled, Sat}
+use Rattle.pin_words.specs.Tells.{HasSeen}
 use Rattle.pin_words.specs.Ends.{parent, child, ended_as, IsBare, joined, spent_view, trail_of, Told, settled}
 use Rattle.pin_words.proofs.Parts.{cells_stay, slots_stay}
 use Rattle.pin_words.proofs.Frames.{frames_stay}
 use Rattle.pin_words.proofs.LaneParts.{lanes_stay}
-use Rattle.pin_words.proofs.Keeping.{now, holds_as, quiet, knowns_stay}
+use Rattle.pin_words.proofs.Histories.{legal_before}
+use Rattle.pin_words.proofs.Keeping.{now, Shown, holds_as, quiet, knowns_stay, given_stays}
 use Rattle.pass_roster.proofs.Splits.{roster_splits}
 use Rattle.pass_roster.proofs.Joins.{roster_joins}
 
@@ -53,15 +55,20 @@ module _ {S M : Type 0} (p : Plan S M) where
   pub record Blank (u : D) : Type 0 where
     pub pins : u.pins ≡ []
     pub visits : (c : ℕ) → visits c u.stage ≡ 0
+    pub works : (c : ℕ) → works c u ≡ 0
+    pub given : u.given ≡ []
     pub slots : u.slots ≡ []
     pub lane : u.lane ≡ None
     pub rises : (l : ℕ) → rise l u ≡ 0
 
-  blank_counts : (u : D) → Blank u → (c : ℕ) → counts c u ≡ 0
+  blank_counts : (u : D) → Blank u → (c : ℕ) → doing_counts c u ≡ 0
   blank_counts u b c = let t : times c u.pins ≡ 0 = ap (times c) b.pins in let v = b.visits c in omega arith
 
   none_some : (q : Option (Taken S)) (o : Taken S) → q ≡ None → q ≡ Some o → ⊥
   none_some q o a b = let e : None ≡ Some o = sym a ∙ b in cc
+
+  none_given : (x : S) → None ≡ Some x → ⊥
+  none_given x e = cc
 
   -- one more such view
   parts_longer : (log : List Event) (ended : List Ended) (ws : List ℕ) (hs : List (maybe.Option (Option S))) (views : List D) (u : D) → Parts p log ended ws hs views → Blank u → Parts p log ended ws hs (views ++ u ∷ [])
@@ -70,8 +77,8 @@ module _ {S M : Type 0} (p : Plan S M) where
     entry = r.entry;
     wide = r.wide;
     deep = r.deep;
-    cells = record { each = λ c l. r.cells.each c l ∙ (let t = total_snoc (counts c) views u in let z = blank_counts u b c in omega arith); beyond = r.cells.beyond };
-    slots = record { each = λ s l. r.slots.each s l ∙ (let t = total_snoc (holding s) views u in let z : holding s u ≡ 0 = ap (times_held s) b.slots in omega arith); taken = r.slots.taken; low = r.slots.low };
+    cells = record { each = λ c l. r.cells.each c l ∙ (let t = total_snoc (doing_counts c) views u in let z = blank_counts u b c in omega arith); beyond = r.cells.beyond; worked = λ c l. r.cells.worked c l ∙ (let t = total_snoc (works c) views u in let z = b.works c in omega arith) };
+    slots = record { each = λ s l. r.slots.each s l ∙ (let t = total_snoc (slots_held s) views u in let z : slots_held s u ≡ 0 = ap (times_held s) b.slots in omega arith); taken = r.slots.taken; low = r.slots.low };
     frames = record {
       each = r.frames.each;
       small = r.frames.small;
@@ -96,22 +103,26 @@ module _ {S M : Type 0} (p : Plan S M) where
       gets = λ y c m. (let q = k.gets y c m in let t = total_snoc (filled c) views u in let z : filled c u ≡ 0 = ap (filled_in c) b.slots in omega arith);
       counted = λ small. (let q = k.counted small in let t = total_snoc (rise l) views u in let z = b.rises l in omega arith);
     };
+    given = λ j f l x t o lone last. ⊎_elim (λ (q : get_elem? views j ≡ some f). r.given j f l x q o lone last)
+        (λ (q : (j ≡ length views) × (u ≡ f)). absurd (none_given x (sym (ap (given_to l) (sym (ap (λ (v : D). v.given) q.1) ∙ b.given)) ∙ last))) (at_end views u f j t);
   }
 
   -- a view in the place of one that counts as much, with the same slots and lane; what is known of the stores is shown apart
   parts_as : (log : List Event) (ended ended' : List Ended) (ws : List ℕ) (hs : List (maybe.Option (Option S))) (views : List D) (id : ℕ) (d w : D) → (r : Parts p log ended ws hs views) → get_elem? views id ≡ some d
-      → ((c : ℕ) → counts c w ≡ counts c d) → w.slots ≡ d.slots → (w.slots ≡ []) ⊎ (w.number ≡ d.number) → w.lane ≡ d.lane → Knowns p r.entry log (set views id w) ended' → Parts p log ended' ws hs (set views id w)
-  parts_as log ended ended' ws hs views id d w r at same slots' number lane known = record {
+      → ((c : ℕ) → doing_counts c w ≡ doing_counts c d) → ((c : ℕ) → works c w ≡ works c d) → w.slots ≡ d.slots → (w.slots ≡ []) ⊎ (w.number ≡ d.number) → w.lane ≡ d.lane → w.given ≡ [] → Knowns p r.entry log (set views id w) ended' → Parts p log ended' ws hs (set views id w)
+  parts_as log ended ended' ws hs views id d w r at same work slots' number lane given known = record {
     owner = r.owner;
     entry = r.entry;
     wide = r.wide;
     deep = r.deep;
-    cells = cells_stay p W W ws ws views id d w r.cells at (λ c _. refl) (λ c. refl) same;
+    cells = cells_stay p W W ws ws views id d w r.cells at (λ c _. refl) (λ c. refl) same work;
     slots = slots_stay p W W ws ws views id d w r.slots at (λ c _. refl) (λ c. refl) (λ c i. times_held c (slots' i));
     frames = frames_stay p W W ws ws views id d w r.frames at (λ s i. refl) (λ c s h. h) (λ c. refl)
         (⊎_elim (λ (e : w.slots ≡ []). subst (Each (HeldOk p W ws w.number)) (sym e) tt) (λ (e : w.number ≡ d.number). subst (λ (q : ℕ × List Held). Each (HeldOk p W ws q.0) q.1) (λ i. (sym e i, sym slots' i)) (r.frames.held id d at)) number) (λ j f _ _. inr (λ c h. h));
     lanes = lanes_stay p r.owner r.entry ws ws hs views id d w r.lanes at (λ l _. refl) lane;
     known = known;
+    given = λ j f l x t o lone last. ⊎_elim (λ (q : (j ≡ id) × (w ≡ f)). absurd (none_given x (sym (ap (given_to l) (sym (ap (λ (v : D). v.given) q.1) ∙ given)) ∙ last)))
+        (λ (q : (j ≢ id) × (get_elem? views j ≡ some f)). r.given j f l x q.1 o lone last) (at_set views id j w f t);
   }
     where
       W : State
@@ -148,8 +159,8 @@ module _ {S M : Type 0} (p : Plan S M) where
     nobody = λ k c none_is. r.nobody k c (λ j f t o n. dite (ℕ_discrete j id)
         (λ q. none_is id w (at_longer (set s.views id w) (u ∷ []) id w (set_here s.views id w (within s.views id v at))) lv (ap (λ (y : D). y.number) (same_view s.views id j v f (sym q) at t) ∙ n))
         (λ q. none_is j f (at_longer (set s.views id w) (u ∷ []) j f (set_else s.views id j w q ∙ t)) o n));
-    parts = parts_longer r.log r.ended s.words s.homes (set s.views id w) u (parts_as r.log r.ended r.ended s.words s.homes s.views id v w r.parts at (λ c. refl) refl (inr refl) refl (knowns_stay p s r id v w at refl refl))
-        record { pins = refl; visits = λ c. refl; slots = refl; lane = refl; rises = λ l. no_rise (length v.rises) l };
+    parts = parts_longer r.log r.ended s.words s.homes (set s.views id w) u (parts_as r.log r.ended r.ended s.words s.homes s.views id v w r.parts at (λ c. refl) (λ c. refl) refl (inr refl) refl refl (knowns_stay p s r id v w at refl refl))
+        record { pins = refl; visits = λ c. refl; works = λ c. refl; given = refl; slots = refl; lane = refl; rises = λ l. no_rise (length v.rises) l };
   }
     where
       w : D
@@ -178,7 +189,7 @@ module _ {S M : Type 0} (p : Plan S M) where
     holds = λ j f t o. ⊎_elim (λ (q : (j ≡ other) × (sp ≡ f)). let y : out sp ≡ out f = ap out q.1 in let x : out sp ≡ 0 = refl in let o' : out f ≡ 1 = o in absurd (omega arith))
         (λ (q : (j ≢ other) × (get_elem? (set s.views id b) j ≡ some f)). ⊎_elim (λ (k : (j ≡ id) × (b ≡ f)). subst (HoldsOk p (now p s r)) k.1 (holds_as p (now p s r) v b refl refl refl refl refl refl refl (both.1, both.2) ok))
         (λ (k : (j ≢ id) × (get_elem? s.views j ≡ some f)). r.holds j f k.1 o) (at_set s.views id j b f q.1)) (at_set (set s.views id b) other j sp f t);
-    spent = λ j f t o. ⊎_elim (λ (q : (j ≡ other) × (sp ≡ f)). subst (HoldsNone p) q.1 record { pins = refl; slots = refl; lane = refl; rises = refl })
+    spent = λ j f t o. ⊎_elim (λ (q : (j ≡ other) × (sp ≡ f)). subst (HoldsNone p) q.1 record { pins = refl; claims = refl; leaving = refl; slots = refl; lane = refl; rises = refl })
         (λ (q : (j ≢ other) × (get_elem? (set s.views id b) j ≡ some f)). ⊎_elim (λ (k : (j ≡ id) × (b ≡ f)). let y : out b ≡ out f = ap out k.1 in let x : out b ≡ 1 = refl in let o' : out f ≡ 0 = o in absurd (omega arith))
         (λ (k : (j ≢ id) × (get_elem? s.views j ≡ some f)). r.spent j f k.1 o) (at_set s.views id j b f q.1)) (at_set (set s.views id b) other j sp f t);
     nobody = λ k c none_is. dite (ℕ_discrete e.number k) (λ q. (λ i. (now p s r).pins (sym q i) c) ∙ (sym ((r.holds other e at' le).pins c) ∙ ap (times c) bare.pins))
@@ -186,8 +197,9 @@ module _ {S M : Type 0} (p : Plan S M) where
         (λ q. none_is id b here refl (ap (λ (y : D). y.number) (same_view s.views id j v f (sym q) at t) ∙ n))
         (λ q. dite (ℕ_discrete j other) (λ m. ne (ap (λ (y : D). y.number) (same_view s.views other j e f (sym m) at' t) ∙ n)) (λ m. none_is j f (set_else (set s.views id b) other j sp m ∙ (set_else s.views id j b q ∙ t)) o n))));
     parts = parts_as r.log r.ended (r.ended ++ ended_as e ∷ []) s.words s.homes (set s.views id b) other e sp first at_b
-        (λ c. let x : times c e.pins ≡ 0 = ap (times c) bare.pins in let y : visits c e.stage ≡ 0 = ap (visits c) idle' in let w : counts c sp ≡ 0 = refl in omega arith)
-        (sym bare.slots) (inl refl) (sym bare.lane)
+        (λ c. let x : times c e.pins ≡ 0 = ap (times c) bare.pins in let y : visits c e.stage ≡ 0 = ap (visits c) idle' in let w : doing_counts c sp ≡ 0 = refl in omega arith)
+        (λ c. let x : times_in c e.claims ≡ 0 = ap (times_in c) bare.claims in let y : times_left c e.leaving ≡ 0 = ap (times_left c) bare.leaving in let w : works c sp ≡ 0 = refl in omega arith)
+        (sym bare.slots) (inl refl) (sym bare.lane) refl
         (λ l x is. let k = first.known l x is in record {
           told = k.told;
           told_log = k.told_log;
@@ -225,17 +237,42 @@ module _ {S M : Type 0} (p : Plan S M) where
       here = set_else (set s.views id b) other id sp (λ q. apart_is (sym q)) ∙ set_here s.views id b (within s.views id v at)
 
       first : Parts p r.log r.ended s.words s.homes (set s.views id b)
-      first = parts_as r.log r.ended r.ended s.words s.homes s.views id v b r.parts at (λ c. ap (λ (st : Stage). times c v.pins + visits c st) (sym idle)) refl (inr refl) refl (knowns_stay p s r id v b at refl refl)
+      first = parts_as r.log r.ended r.ended s.words s.homes s.views id v b r.parts at (λ c. ap (λ (st : Stage). times c v.pins + visits c st) (sym idle)) (λ c. refl) refl (inr refl) refl refl (knowns_stay p s r id v b at refl refl)
 
-  pub settles_pass : (slots id : ℕ) (me : Sat S M) (a b : List Event) → me.0.stage ≡ Joining a b → Allows (Ruled p) slots id me 0 (λ n. n) (settled (step slots 0 0 0 none) me)
-  settles_pass slots id me a b is s r many at below = let d : D = me.0 in let w : D = record d { stage = Idle } in let lv : out d ≡ 1 = ap out_of is in let ok = r.holds id d at lv in
-      let shown = parts_as r.log r.ended r.ended s.words s.homes s.views id d w r.parts at (λ c. ap (λ (st : Stage). times c d.pins + visits c st) (sym is)) refl (inr refl) refl (knowns_stay p s r id d w at refl refl) in (
-        w,
-        keeps,
-        tt,
-        subst (λ (ws : List ℕ). Ruled p record { words = ws; homes = s.homes; views = set s.views id w }) (sym (set-get_or s.words 0 0))
-            (quiet p s r id d w s.words s.homes at lv refl (refl, refl, refl) refl (inr refl) (holds_as p (now p s r) d w refl refl refl refl refl refl refl tt ok) refl refl shown.cells shown.slots shown.frames shown.owner shown.entry shown.lanes shown.known),
-        (refl, subst (Told d) (sym is) (subst (Staged d.seen p.cells) is ok.stage)),
+  pub settles_pass : (plan : M → Plan S M) → plan p.made ≡ p → (slots id : ℕ) (me : Sat S M) (a b : List Event) → me.0.stage ≡ Joining a b → Allows (Ruled p) slots id me 0 (λ n. n) (settled plan (step slots 0 0 0 none) me)
+  settles_pass plan same_plan slots id me a b is s r many at below = (
+    w,
+    keeps,
+    tt,
+    subst (λ (ws : List ℕ). Ruled p record { words = ws; homes = s.homes; views = set s.views id w }) (sym (set-get_or s.words 0 0))
+        (quiet p s r id d w s.words s.homes at lv refl (refl, refl, refl) refl (inr refl) (holds_as p (now p s r) d w refl refl refl refl refl refl refl tt ok) refl refl shown.0 shown.1 shown.2 r.parts.owner r.parts.entry
+        (lanes_stay p r.parts.owner r.parts.entry s.words s.words s.homes s.views id d w r.parts.lanes at (λ l _. refl) refl) (knowns_stay p s r id d w at refl refl) (given_stays p s r id d w r.parts.entry at lv (refl, refl, refl) refl (λ _. refl))),
+    (refl, subst (λ (k : Plan S M). Told k d d.stage) (sym (ap plan ok.made ∙ same_plan)) (subst (Told p d) (sym is) (both.0, both.1, known))),
+  )
+    where
+      d : D
+      d = me.0
+
+      w : D
+      w = record d { stage = Idle }
+
+      lv : out d ≡ 1
+      lv = ap out_of is
+
+      ok : HoldsOk p (now p s r) d
+      ok = r.holds id d at lv
+
+      both : StartsWith d.seen a × StartsWith d.seen b
+      both = subst (Staged d.seen p.cells) is ok.stage
+
+      known : HasSeen p d
+      known = let k = r.roster.each id d at lv in record { legal = legal_before (shape_of p) (start_of p) d.seen k.begins.0 (subst (AreLegal (shape_of p) (start_of p)) k.begins.1 r.legal); own = k.all_seen }
+
+      shown : Shown p s r s.words (set s.views id w)
+      shown = (
+        cells_stay p (now p s r) (now p s r) s.words s.words s.views id d w r.parts.cells at (λ c _. refl) (λ c. refl) (λ c. ap (λ (st : Stage). times c d.pins + visits c st) (sym is)) (λ c. refl),
+        slots_stay p (now p s r) (now p s r) s.words s.words s.views id d w r.parts.slots at (λ c _. refl) (λ c. refl) (λ c. refl),
+        frames_stay p (now p s r) (now p s r) s.words s.words s.views id d w r.parts.frames at (λ l i. refl) (λ c l h. h) (λ c. refl) (r.parts.frames.held id d at) (λ j f _ _. inr (λ c h. h)),
       )
 
   -- a view that is no pass may come at any time
@@ -258,9 +295,9 @@ module _ {S M : Type 0} (p : Plan S M) where
     };
     legal = r.legal;
     holds = λ j d t o. r.holds j d (out_old j d t o) o;
-    spent = λ j d t o. ⊎_elim (λ (q : get_elem? s.views j ≡ some d). r.spent j d q o) (λ (q : (j ≡ length s.views) × (u ≡ d)). subst (HoldsNone p) q.1 record { pins = refl; slots = refl; lane = refl; rises = refl }) (at_end s.views u d j t);
+    spent = λ j d t o. ⊎_elim (λ (q : get_elem? s.views j ≡ some d). r.spent j d q o) (λ (q : (j ≡ length s.views) × (u ≡ d)). subst (HoldsNone p) q.1 record { pins = refl; claims = refl; leaving = refl; slots = refl; lane = refl; rises = refl }) (at_end s.views u d j t);
     nobody = λ k c none_is. r.nobody k c (λ j d t o n. none_is j d (at_longer s.views (u ∷ []) j d t) o n);
-    parts = parts_longer r.log r.ended s.words s.homes s.views u r.parts record { pins = refl; visits = λ c. refl; slots = refl; lane = refl; rises = λ l. refl };
+    parts = parts_longer r.log r.ended s.words s.homes s.views u r.parts record { pins = refl; visits = λ c. refl; works = λ c. refl; given = refl; slots = refl; lane = refl; rises = λ l. refl };
   }
     where
       u : D

@@ -23,7 +23,7 @@ use Rattle.pin_words.specs.declared.doing.Stage.TheVariants.{Idle}
 use Rattle.pin_words.specs.Plan.{Plan, shape_of, start_of}
 use Rattle.pin_words.specs.Account.{one}
 use Rattle.pin_words.specs.Layout.{frame_at, bit, face}
-use Rattle.pin_words.specs.Words.{out_of, out, times, counts, in_slot, Each, CellsOk, SlotsOk, FramesOk}
+use Rattle.pin_words.specs.Words.{out_of, out, times, doing_counts, in_slot, in_work, works, Each, CellsOk, SlotsOk, FramesOk}
 use Rattle.pin_words.specs.Rule.{PinOk, Staged, HoldsOk, Ruled, Sat}
 use Rattle.pin_words.specs.Finding.{Picks, pin, pins_without}
 use Rattle.pin_words.specs.Pins.{seen_of, ShowsLive, IsPinned, IsVisiting, IsMissed, IsUnpinned, IsMarked, IsRead, IsWritten}
@@ -31,9 +31,10 @@ use Rattle.pin_words.specs.Pins as pins
 use Rattle.pin_words.proofs.Numbers.{put_same, put_at, put_other, one_same, one_else}
 use Rattle.pin_words.proofs.Lists.{all_map, picks_all, picks_total}
 use Rattle.pin_words.proofs.LaneParts.{lanes_stay}
-use Rattle.pin_words.proofs.Keeping.{now, Shown, holds_as, moved, unseen}
+use Rattle.pin_words.proofs.Keeping.{now, Shown, holds_as, moved, given_stays, unseen}
 use Rattle.pin_words.proofs.Lone.{small, adds}
-use Rattle.pin_words.proofs.Holds.{pinned_else, unpinned_own, no_claim, no_left, changed, claims_stay, left_stay, bit_small}
+use Rattle.pin_words.proofs.Found.{no_claim, no_left}
+use Rattle.pin_words.proofs.Holds.{pinned_else, unpinned_own, changed, claims_stay, left_stay, bit_small}
 use Rattle.pin_words.proofs.Moving.{cell_event, frames_cell, knowns_event, Lanes, lanes_same}
 use Rattle.pin_words.proofs.Visiting.{lessened}
 
@@ -97,7 +98,7 @@ module _ {S M : Type 0} (p : Plan S M) (plan : M → Plan S M) (same_plan : plan
           stage = subst (Staged w.seen p.cells) (sym idle) tt;
         }
         (λ f ne h. record { made = h.made; pins = λ a. h.pins a ∙ sym (pinned_else W.pins d.number c _ f.number a ne); each_pin = h.each_pin; each_claim = h.each_claim; each_slot = h.each_slot; each_left = h.each_left; few = h.few; once = h.once; once_left = h.once_left; once_filled = h.once_filled; each_rise = h.each_rise; stage = h.stage })
-        (λ k a ne. pinned_else W.pins d.number c _ k a ne) (length-set s.words (1 + c) _) refl shown.0 shown.1 shown.2 r.parts.owner lanes.0 lanes.1 lanes.2,
+        (λ k a ne. pinned_else W.pins d.number c _ k a ne) (length-set s.words (1 + c) _) refl shown.0 shown.1 shown.2 r.parts.owner lanes.0 lanes.1 lanes.2 lanes.3,
     (refl, subst (λ (k : Plan S M). IsUnpinned k d q w) (sym (ap plan ok.made ∙ same_plan)) (adds p s r id d at lv (record d { pins = pins_without q d }) w e refl legal refl refl refl)),
   )
     where
@@ -136,10 +137,10 @@ module _ {S M : Type 0} (p : Plan S M) (plan : M → Plan S M) (same_plan : plan
 
       shown : CellsOk p (next W e) ws (set s.views id w) × SlotsOk p (next W e) ws (set s.views id w) × FramesOk p (next W e) ws (set s.views id w)
       shown = lessened p plan same_plan s r id c d w (next W e) at inside below (let t = pin_times s r id d q at lv has c in let o = one_same c in omega arith)
-          (λ a ne. let t = pin_times s r id d q at lv has a in let o = one_else c a (λ y. ne (sym y)) in omega arith) refl refl (λ a. refl) (λ a. refl)
+          (λ a ne. let t = pin_times s r id d q at lv has a in let o = one_else c a (λ y. ne (sym y)) in omega arith) refl refl (λ a. refl) (λ a. refl) (λ _. refl)
 
       lanes : Lanes p s r ws (r.log ++ e ∷ []) (set s.views id w)
-      lanes = lanes_same p s r id d w c _ (r.log ++ e ∷ []) at inside refl (knowns_event p s r id d w e at legal (λ a h. h) (λ a. omega arith) refl)
+      lanes = lanes_same p s r id d w c _ (r.log ++ e ∷ []) at inside refl (knowns_event p s r id d w e at legal (λ a h. h) (λ a. omega arith) refl) (given_stays p s r id d w r.parts.entry at lv (refl, refl, refl) refl (λ _. refl))
 
   -- a mark keeps each pin's cell live in its slot
   module _ (w : State) (c l : ℕ) (m : Bool) (is : w.cells c ≡ cell.Live l m) where
@@ -194,11 +195,12 @@ module _ {S M : Type 0} (p : Plan S M) (plan : M → Plan S M) (same_plan : plan
           stage = subst (Staged w.seen p.cells) (sym idle) tt;
         }
         (λ f _ h. mark_holds W c l known.0.1.0 live_is f h) (λ j a _. refl)
-        (mark_word n l total_c known.0.1.0 (word ∙ ap (λ (y : CellState). face y + total_c) live_is) (let h = small p s r c in omega arith) ∙ (let g = total_set (counts c) s.views id d w at in let o = same_times c in omega arith))
+        (mark_word n l total_c known.0.1.0 (word ∙ ap (λ (y : CellState). face y + total_c) live_is) (let h = small p s r c in omega arith) ∙ (let g = total_set (doing_counts c) s.views id d w at in let o = same_times c in omega arith))
         (λ a ne. let o = same_times a in omega arith)
+        (let j : in_work (W.cells c) ≡ 0 = ap in_work live_is in let k : works c w ≡ works c d = refl in omega arith) (λ a ne. refl)
         (λ y. let h : in_slot y (W.cells c) ≡ one l y = ap (in_slot y) live_is in let g : in_slot y t ≡ one l y = refl in omega arith) (λ y h. r.parts.slots.low c y (subst (λ (u : CellState). 0 < in_slot y u) (sym live_is) h))
         (frames_cell p s r id d w c (bit_or n 16777216) t W.pins at inside (λ y h. subst (λ (u : CellState). HasSlot u y) (sym live_is) h) (mark_not_loading W c l known.0.1.0 live_is) (λ h. h))
-        (lanes_same p s r id d w c (bit_or n 16777216) (r.log ++ e ∷ []) at inside refl (knowns_event p s r id d w e at legal (λ a y. y) (λ a. omega arith) refl)),
+        (lanes_same p s r id d w c (bit_or n 16777216) (r.log ++ e ∷ []) at inside refl (knowns_event p s r id d w e at legal (λ a y. y) (λ a. omega arith) refl) (given_stays p s r id d w r.parts.entry at lv (refl, refl, refl) refl (λ _. refl))),
     (refl, subst (λ (k : Plan S M). IsMarked k d q w) (sym (ap plan ok.made ∙ same_plan)) (adds p s r id d at lv (record d { pins = pin c l true ∷ pins_without q d }) w e refl legal refl refl refl)),
   )
     where
@@ -227,7 +229,7 @@ module _ {S M : Type 0} (p : Plan S M) (plan : M → Plan S M) (same_plan : plan
       n = get_or s.words (1 + c) 0
 
       total_c : ℕ
-      total_c = total (counts c) s.views
+      total_c = total (doing_counts c) s.views
 
       lv : out d ≡ 1
       lv = ap out_of idle
@@ -268,7 +270,7 @@ module _ {S M : Type 0} (p : Plan S M) (plan : M → Plan S M) (same_plan : plan
     subst (λ (ws : List ℕ). Ruled p record { words = ws; homes = s.homes; views = set s.views id w }) (sym (set-get_or s.words (frame_at p q.slot i) 0))
         (moved p s r id d w e s.words s.homes at lv lv (refl, refl, refl) refl refl refl legal
         (holds_as p W d w refl refl refl refl refl refl refl (subst (Staged w.seen p.cells) (sym idle) tt) ok) (λ f _ h. h) (λ k a _. refl) refl refl shown.0 shown.1 shown.2
-        r.parts.owner r.parts.entry (lanes_stay p r.parts.owner r.parts.entry s.words s.words s.homes s.views id d w r.parts.lanes at (λ l _. refl) refl) (knowns_event p s r id d w e at legal (λ a h. h) (λ a. omega arith) refl)),
+        r.parts.owner r.parts.entry (lanes_stay p r.parts.owner r.parts.entry s.words s.words s.homes s.views id d w r.parts.lanes at (λ l _. refl) refl) (knowns_event p s r id d w e at legal (λ a h. h) (λ a. omega arith) refl) (given_stays p s r id d w r.parts.entry at lv (refl, refl, refl) refl (λ _. refl))),
     (refl, subst (λ (k : Plan S M). IsRead k d q.cell i n w) (sym (ap plan ok.made ∙ same_plan)) (adds p s r id d at lv d w e refl legal refl refl refl)),
   )
     where
@@ -303,4 +305,4 @@ module _ {S M : Type 0} (p : Plan S M) (plan : M → Plan S M) (same_plan : plan
       legal = (known.0.0, near, r.parts.frames.small q.cell q.slot i slot near, pin_counts s r id d q at lv has, λ told. r.parts.frames.each q.cell q.slot i slot near told)
 
       shown : Shown p s r s.words (set s.views id w)
-      shown = unseen p s r id d w at lv refl refl refl refl
+      shown = unseen p s r id d w at lv refl refl refl refl (λ _. refl)

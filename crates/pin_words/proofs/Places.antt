@@ -11,13 +11,12 @@ use Rattle.pin_words.specs.declared.holding.Held.{Held}
 use Rattle.pin_words.specs.declared.doing.Doing.{Doing}
 use Rattle.pin_words.specs.Plan.{Plan}
 use Rattle.pin_words.specs.Account.{one}
-use Rattle.pin_words.specs.Words.{out, times_held, holding, in_slot, over, Each, HeldOk}
+use Rattle.pin_words.specs.Words.{out, times_held, slots_held, in_slot, sum_over, Each, HeldOk}
 use Rattle.pin_words.specs.Rule.{Ruled}
 use Rattle.pin_words.specs.Finding.{Picks}
-use Rattle.pin_words.proofs.Numbers.{one_same, one_is}
+use Rattle.pin_words.proofs.Numbers.{one_same, one_is, in_slot_is}
 use Rattle.pin_words.proofs.Lists.{over_one, picks_all, picks_total}
 use Rattle.pin_words.proofs.Keeping.{now}
-use Rattle.pin_words.proofs.Holds.{in_slot_is}
 use Rattle.std.proofs.Common.{mul-le-mul_right, suc-mul}
 
 pub frame_below : (f s t i j : ℕ) → i < f → s < t → s * f + i < t * f + j
@@ -38,7 +37,7 @@ pub each_both : {A : Type 0} (P Q R : A → Type 0) (xs : List A) → ((x : A) �
 each_both P Q R [] f a b = tt
 each_both P Q R (x ∷ xs) f a b = (f x a.0 b.0, each_both P Q R xs f a.1 b.1)
 
-over_two : (f : ℕ → ℕ) (b c n : ℕ) → b < n → c < n → b ≢ c → f b + f c ≤ over f n
+over_two : (f : ℕ → ℕ) (b c n : ℕ) → b < n → c < n → b ≢ c → f b + f c ≤ sum_over f n
 over_two f b c zero l m ne = absurd (omega arith)
 over_two f b c (suc n) l m ne = dite (ℕ_discrete b n) (λ e. let h : f b ≡ f n = ap f e in let o = over_one f c n (omega arith) in omega arith)
     (λ k. dite (ℕ_discrete c n) (λ e. let h : f c ≡ f n = ap f e in let o = over_one f b n (omega arith) in omega arith) (λ j. let r = over_two f b c n (omega arith) (omega arith) ne in omega arith))
@@ -52,8 +51,8 @@ module _ {S M : Type 0} (p : Plan S M) where
     pub cell_low : l < p.slots
     cell_low = r.parts.slots.low c l (let k = in_slot_is ((now p s r).cells c) l u in omega arith)
 
-    pub not_held : (j : ℕ) (f : D) → get_elem? s.views j ≡ some f → holding l f ≡ 0
-    not_held j f t = let o = over_one (λ a. in_slot l ((now p s r).cells a)) c p.cells inside in let m = total_one (holding l) s.views j f t in let y = r.parts.slots.each l cell_low in let v = r.parts.slots.taken l cell_low in let k = in_slot_is ((now p s r).cells c) l u in omega arith
+    pub not_held : (j : ℕ) (f : D) → get_elem? s.views j ≡ some f → slots_held l f ≡ 0
+    not_held j f t = let o = over_one (λ a. in_slot l ((now p s r).cells a)) c p.cells inside in let m = total_one (slots_held l) s.views j f t in let y = r.parts.slots.each l cell_low in let v = r.parts.slots.taken l cell_low in let k = in_slot_is ((now p s r).cells c) l u in omega arith
 
     pub only_cell : (b : ℕ) → HasSlot ((now p s r).cells b) l → b ≡ c
     only_cell b v = dite (ℕ_discrete b c) (λ e. e) (λ ne. dite (dec_le (suc b) p.cells)
@@ -68,17 +67,17 @@ module _ {S M : Type 0} (p : Plan S M) where
     pub held_here : HeldOk p (now p s r) s.words d.number h × Each (HeldOk p (now p s r) s.words d.number) hs
     held_here = picks_all (HeldOk p (now p s r) s.words d.number) has (r.parts.frames.held id d at)
 
-    own : holding h.slot d ≡ 1 + times_held h.slot hs
+    own : slots_held h.slot d ≡ 1 + times_held h.slot hs
     own = let f : times_held h.slot d.slots ≡ one h.slot h.slot + times_held h.slot hs = picks_total (λ (y : Held). one y.slot h.slot) has in let i = one_same h.slot in omega arith
 
     pub no_cell : (b l : ℕ) → HasSlot ((now p s r).cells b) l → l ≢ h.slot
     no_cell b l u e = dite (dec_le (suc b) p.cells)
-        (λ lt. let o = over_one (λ a. in_slot h.slot ((now p s r).cells a)) b p.cells (omega arith) in let m = total_one (holding h.slot) s.views id d at in let f = own in
+        (λ lt. let o = over_one (λ a. in_slot h.slot ((now p s r).cells a)) b p.cells (omega arith) in let m = total_one (slots_held h.slot) s.views id d at in let f = own in
         let y = r.parts.slots.each h.slot slot_low in let v = r.parts.slots.taken h.slot slot_low in let k = in_slot_is ((now p s r).cells b) h.slot (subst (HasSlot ((now p s r).cells b)) e u) in absurd (omega arith))
         (λ g. let v : in_slot h.slot ((now p s r).cells b) ≡ 0 = ap (in_slot h.slot) (r.parts.cells.beyond b (omega arith)) in let k = in_slot_is ((now p s r).cells b) h.slot (subst (HasSlot ((now p s r).cells b)) e u) in absurd (omega arith))
 
     pub no_other_of_mine : times_held h.slot hs ≡ 0
-    no_other_of_mine = let m = total_one (holding h.slot) s.views id d at in let f = own in let y = r.parts.slots.each h.slot slot_low in let v = r.parts.slots.taken h.slot slot_low in omega arith
+    no_other_of_mine = let m = total_one (slots_held h.slot) s.views id d at in let f = own in let y = r.parts.slots.each h.slot slot_low in let v = r.parts.slots.taken h.slot slot_low in omega arith
 
     pub no_other_pass : (j : ℕ) (f : D) → j ≢ id → get_elem? s.views j ≡ some f → times_held h.slot f.slots ≡ 0
-    no_other_pass j f n t = let m = total_two (holding h.slot) s.views j id f d n t at in let o = own in let y = r.parts.slots.each h.slot slot_low in let v = r.parts.slots.taken h.slot slot_low in omega arith
+    no_other_pass j f n t = let m = total_two (slots_held h.slot) s.views j id f d n t at in let o = own in let y = r.parts.slots.each h.slot slot_low in let v = r.parts.slots.taken h.slot slot_low in omega arith

@@ -18,16 +18,17 @@ use Rattle.pin_words.specs.declared.doing.Stage.TheVariants.{Idle}
 use Rattle.pin_words.specs.Plan.{Plan, IsPlan, shape_of, start_of}
 use Rattle.pin_words.specs.Account.{one, times_in, filled_by, filled_in}
 use Rattle.pin_words.specs.Layout.{frame_at, face}
-use Rattle.pin_words.specs.Words.{out_of, out, times, times_held, visits, counts, holding, in_slot, Each, FitsCell, HeldOk}
+use Rattle.pin_words.specs.Words.{out_of, out, times, times_left, times_held, visits, doing_counts, slots_held, in_slot, in_work, works, Each, FitsCell, HeldOk}
 use Rattle.pin_words.specs.Rule.{ClaimOk, Staged, HoldsOk, Ruled, Sat}
 use Rattle.pin_words.specs.Finding.{Picks, pin, has_claim, claims_without, helds_without}
 use Rattle.pin_words.specs.Cells as cells
 use Rattle.pin_words.specs.Cells.{held, left, change, noted, scanned, TakesSlot, MissesSlot, GivesSlot, Stores, Fills, IsFilled, Begun, IsClaimed, IsTaken, IsDropped, IsPublished, IsClosed, IsBusy, IsGone, IsBack, IsDue, IsFrameNumber}
-use Rattle.pin_words.proofs.Numbers.{put_same, one_same, one_else}
+use Rattle.pin_words.proofs.Numbers.{put_same, one_same, one_else, in_slot_is}
 use Rattle.pin_words.proofs.Lists.{over_one, picks_all, picks_total}
-use Rattle.pin_words.proofs.Keeping.{now}
+use Rattle.pin_words.proofs.Keeping.{now, given_stays}
 use Rattle.pin_words.proofs.Lone.{small, adds}
-use Rattle.pin_words.proofs.Holds.{pinned, pinned_own, pinned_else, no_pin, no_left, pins_stay, claims_stay, left_stay, holds_stay, number_in, in_slot_is}
+use Rattle.pin_words.proofs.Found.{no_left, number_in}
+use Rattle.pin_words.proofs.Holds.{pinned, pinned_own, pinned_else, no_pin, pins_stay, claims_stay, left_stay, holds_stay}
 use Rattle.pin_words.proofs.Moving.{cell_event, knowns_event, lanes_same, retold}
 use Rattle.pin_words.proofs.Loading.{frames_loaded, loading_not_live, loading_not_leaving}
 
@@ -65,15 +66,17 @@ module _ {S M : Type 0} (p : Plan S M) (ok_plan : IsPlan p) (plan : M → Plan S
         }
         (λ f ne y. holds_stay p W c t P f y (no_pin W p.cells c f.pins not_live y.each_pin) (λ u. ne (ap number_in (sym u ∙ is))) (not_leaving f.number) (λ a. pinned_else W.pins d.number c _ f.number a ne))
         (λ k a ne. pinned_else W.pins d.number c _ k a ne)
-        (up ∙ (let m = total_set (counts c) s.views id d w at in let i = one_same c in let o : counts c w ≡ one c c + times c d.pins + visits c d.stage = refl in omega arith))
-        (λ a ne. let i = one_else c a (λ y. ne (sym y)) in let o : counts a w ≡ one c a + times a d.pins + visits a d.stage = refl in omega arith)
+        (up ∙ (let m = total_set (doing_counts c) s.views id d w at in let i = one_same c in let o : doing_counts c w ≡ one c c + times c d.pins + visits c d.stage = refl in omega arith))
+        (λ a ne. let i = one_else c a (λ y. ne (sym y)) in let o : doing_counts a w ≡ one c a + times a d.pins + visits a d.stage = refl in omega arith)
+        (let j : in_work (W.cells c) ≡ 1 = ap in_work is in let o = one_same c in let f : times_in c d.claims ≡ one c c + times_in c cs = picks_total (λ (y : ℕ). one y c) has_claim in let k : works c w ≡ times_in c cs + times_left c d.leaving = refl in let m : works c d ≡ times_in c d.claims + times_left c d.leaving = refl in omega arith)
+        (λ a ne. let o = one_else c a (λ y. ne (sym y)) in let f : times_in a d.claims ≡ one c a + times_in a cs = picks_total (λ (y : ℕ). one y a) has_claim in let k : works a w ≡ times_in a cs + times_left a d.leaving = refl in let m : works a d ≡ times_in a d.claims + times_left a d.leaving = refl in omega arith)
         (λ y. let u : in_slot y (W.cells c) ≡ 0 = ap (in_slot y) is in let f : times_held y d.slots ≡ one h.slot y + times_held y hs = picks_total (λ (v : Held). one v.slot y) has_slot in omega arith)
         (λ y u. subst (λ (v : ℕ). v < p.slots) (shown y u) low)
         (frames_loaded p s r id d w c x t P at lv inside is
         (λ l i u b told. (λ m. get_or s.words (frame_at p (sym u m) i) 0) ∙ (mine.begins i (let q = known.2 in omega arith) ∙ (known.3.1 told).1 i b))
         (λ l i u b. subst (λ (m : ℕ). m ≤ p.greatest c) (sym ((λ m. get_or s.words (frame_at p (sym u m) i) 0) ∙ mine.begins i (let q = known.2 in omega arith))) (known.3.0 i b))
         (λ l u told. (known.3.1 told).0) refl all_held.1 no_other)
-        (lanes_same p s r id d w c x (r.log ++ e ∷ []) at inside refl (knowns_event p s r id d w e at legal (λ a y. y) (λ a. let f : filled_in a d.slots ≡ filled_by a h + filled_in a hs = picks_total (λ (y : Held). filled_by a y) has_slot in let y : filled_by a h ≡ one c a = filled_is a in omega arith) refl)),
+        (lanes_same p s r id d w c x (r.log ++ e ∷ []) at inside refl (knowns_event p s r id d w e at legal (λ a y. y) (λ a. let f : filled_in a d.slots ≡ filled_by a h + filled_in a hs = picks_total (λ (y : Held). filled_by a y) has_slot in let y : filled_by a h ≡ one c a = filled_is a in omega arith) refl) (given_stays p s r id d w r.parts.entry at lv (refl, refl, refl) refl (λ _. refl))),
     λ b m b_is m_is. retold_slot (λ q a l. (me.1 ≡ me.1) × IsPublished q d a l w) d.made ok.made c h.slot b m b_is m_is (refl, adds p s r id d at lv (record d { claims = cs; slots = hs; pins = pin c h.slot false ∷ d.pins }) w e refl legal refl refl refl),
   )
     where
@@ -108,7 +111,7 @@ module _ {S M : Type 0} (p : Plan S M) (ok_plan : IsPlan p) (plan : M → Plan S
       x = published h.slot n
 
       q : ℕ
-      q = total (counts c) s.views
+      q = total (doing_counts c) s.views
 
       lv : out d ≡ 1
       lv = ap out_of idle
@@ -161,7 +164,7 @@ module _ {S M : Type 0} (p : Plan S M) (ok_plan : IsPlan p) (plan : M → Plan S
       -- the slot is the pass's, so no cell has it
       slot_free : (b : ℕ) → HasSlot (W.cells b) h.slot → ⊥
       slot_free b u = dite (dec_le (suc b) p.cells)
-          (λ l. let o = over_one (λ a. in_slot h.slot (W.cells a)) b p.cells (omega arith) in let m = total_one (holding h.slot) s.views id d at in let f : times_held h.slot d.slots ≡ one h.slot h.slot + times_held h.slot hs = picks_total (λ (v : Held). one v.slot h.slot) has_slot in
+          (λ l. let o = over_one (λ a. in_slot h.slot (W.cells a)) b p.cells (omega arith) in let m = total_one (slots_held h.slot) s.views id d at in let f : times_held h.slot d.slots ≡ one h.slot h.slot + times_held h.slot hs = picks_total (λ (v : Held). one v.slot h.slot) has_slot in
           let i = one_same h.slot in let y = r.parts.slots.each h.slot low in let v = r.parts.slots.taken h.slot low in let k = in_slot_is (W.cells b) h.slot u in absurd (omega arith))
           (λ g. let v : in_slot h.slot (W.cells b) ≡ 0 = ap (in_slot h.slot) (r.parts.cells.beyond b (omega arith)) in let k = in_slot_is (W.cells b) h.slot u in absurd (omega arith))
 

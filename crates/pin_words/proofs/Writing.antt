@@ -28,7 +28,7 @@ use Rattle.pin_words.proofs.Numbers.{put_same, put_at, put_other}
 use Rattle.pin_words.proofs.Lists.{all_map}
 use Rattle.pin_words.proofs.Parts.{cells_stay, slots_stay}
 use Rattle.pin_words.proofs.LaneParts.{lanes_stay}
-use Rattle.pin_words.proofs.Keeping.{now, holds_as, moved}
+use Rattle.pin_words.proofs.Keeping.{now, holds_as, moved, given_stays}
 use Rattle.pin_words.proofs.Lone.{adds}
 use Rattle.pin_words.proofs.Moving.{knowns_event}
 use Rattle.pin_words.proofs.Pinning.{pin_ok, pin_counts}
@@ -90,7 +90,7 @@ module _ {S M : Type 0} (p : Plan S M) (ok_plan : IsPlan p) (plan : M → Plan S
     moved p s r id d w e ws' s.homes at lv lv (refl, refl, refl) refl refl refl legal
         (holds_wrote W d.number c i x l true is w (holds_as p W d w refl refl refl refl refl refl refl (subst (Staged w.seen p.cells) (sym idle) tt) ok))
         (λ f _ h. holds_wrote W d.number c i x l true is f h) (λ j a _. refl) (length-set s.words (frame_at p l i) x) refl
-        (cells_stay p W (next W e) s.words ws' s.views id d w r.parts.cells at (λ a b. get_or-set_other s.words (frame_at p l i) (1 + a) x 0 (λ y. omega arith)) (λ a. refl) (λ a. refl))
+        (cells_stay p W (next W e) s.words ws' s.views id d w r.parts.cells at (λ a b. get_or-set_other s.words (frame_at p l i) (1 + a) x 0 (λ y. omega arith)) (λ a. refl) (λ a. refl) (λ _. refl))
         (slots_stay p W (next W e) s.words ws' s.views id d w r.parts.slots at (λ a b. get_or-set_other s.words (frame_at p l i) (slot_at p a) x 0 (λ y. omega arith)) (λ a. refl) (λ a. refl))
         record {
           each = λ a g j u b t. let near' = room a g u j b in dite (ℕ_discrete a c)
@@ -108,7 +108,7 @@ module _ {S M : Type 0} (p : Plan S M) (ok_plan : IsPlan p) (plan : M → Plan S
               (λ (y : (j ≢ id) × (get_elem? s.views j ≡ some f)). held f.number f.slots (not_held p s r c l inside slot j f y.1) (r.parts.frames.held j f y.1)) (at_set s.views id j w f t);
         }
         r.parts.owner r.parts.entry (lanes_stay p r.parts.owner r.parts.entry s.words ws' s.homes s.views id d w r.parts.lanes at (λ a b. get_or-set_other s.words (frame_at p l i) (lane_at p a) x 0 (λ y. omega arith)) refl)
-        (knowns_event p s r id d w e at legal (λ a y. y) (λ a. omega arith) refl),
+        (knowns_event p s r id d w e at legal (λ a y. y) (λ a. omega arith) refl) (given_stays p s r id d w r.parts.entry at lv (refl, refl, refl) refl (λ _. refl)),
     (refl, subst (λ (k : Plan S M). IsWritten k d c i x w) (sym (ap plan ok.made ∙ same_plan)) (adds p s r id d at lv d w e refl legal refl refl refl)),
   )
     where

@@ -1,18 +1,19 @@
 -- What is known of the store of a lane: what it stands for, and its gets, puts and faults, against the history.
 use Rattle.std.specs.Prelude.{◌≡◌, ◌≢◌, ℕ, ◌+◌, ◌-◌, ◌^◌, ◌<◌, ◌≤◌, ◌==◌, nat_le, min, cond, Bool, true, false, IsTrue, List, [], ◌∷◌, ◌++◌, slice_index_or, Option, Some, None}
-use Rattle.cell_store.specs.Store.{Contents}
+use Rattle.cell_store.specs.Store.{Contents, held_of}
 use Rattle.arr_history.specs.declared.event.Event.{Event}
-use Rattle.arr_history.specs.declared.event.Event.TheVariants.{Mark, Live, Gone}
-use Rattle.arr_history.specs.declared.cell_state.CellState.{CellState}
-use Rattle.arr_history.specs.declared.cell_state.CellState.TheVariants as cell
 use Rattle.arr_history.specs.State.{State}
 use Rattle.arr_history.specs.History.{after}
+pub use Rattle.arr_history.specs.History.{WasMarked}
+pub use Rattle.arr_history.specs.Legal.{has_mark}
 use Rattle.pass_roster.specs.History.{StartsWith, total}
 use Rattle.pin_words.specs.declared.holding.Held.{Held}
 use Rattle.pin_words.specs.declared.lane.Change.{Change}
 use Rattle.pin_words.specs.declared.lane.Taken.{Taken}
 use Rattle.pin_words.specs.declared.doing.Ended.{Ended}
 use Rattle.pin_words.specs.declared.doing.Doing.{Doing}
+use Rattle.stood_arrays.specs.Counts.{loads, saves as saved_by}
+pub use Rattle.stood_arrays.specs.Counts.{rose}
 use Rattle.pin_words.specs.Plan.{Plan, lane_of, is_void, start_of}
 use Rattle.pin_words.specs.Standing.{StandsFor, IsVoid, puts_under, gets_under}
 
@@ -26,29 +27,17 @@ times_in c = total (λ n. one n c)
 
 -- how often a cell went live
 abbrev pub lives_by : ℕ → Event → ℕ
-lives_by c (Live k d slot) = one d c
-lives_by c other = 0
+lives_by c e = cond (loads c e) 1 0
 
 abbrev pub lives : ℕ → List Event → ℕ
 lives c = total (lives_by c)
 
 -- how often a cell went saved
 abbrev pub saves_by : ℕ → Event → ℕ
-saves_by c (Gone k d saved) = cond saved (one d c) 0
-saves_by c other = 0
+saves_by c e = cond (saved_by c e) 1 0
 
-abbrev pub saves : ℕ → List Event → ℕ
-saves c = total (saves_by c)
-
--- a cell was marked in these events
-abbrev pub WasMarked : ℕ → List Event → Type 0
-WasMarked c events = (k : ℕ) × (before since : List Event) × (events ≡ before ++ Mark k c ∷ since)
-
--- the cell is marked, live or leaving
-abbrev pub has_mark : CellState → Bool
-has_mark (cell.Live slot mark) = mark
-has_mark (cell.Leaving k slot mark) = mark
-has_mark other = false
+abbrev pub times_saved : ℕ → List Event → ℕ
+times_saved c = total (saves_by c)
 
 -- how many of these slots are filled for a cell
 abbrev pub filled_by : ℕ → Held → ℕ
@@ -64,10 +53,6 @@ filled_in c = total (filled_by c)
 -- how often a cell was saved in these changes
 abbrev pub saved_in : ℕ → List Change → ℕ
 saved_in c = total (λ h. cond h.saved (one h.cell c) 0)
-
--- 1 where a count of faults rose, or stands at its last value
-abbrev pub rose : ℕ → ℕ → ℕ
-rose before now = cond (nat_le (min (before + 1) (2 ^ 64 - 1)) now) 1 0
 
 -- the array of a cell that isn't marked
 abbrev pub clean_array : State → ℕ → Option (ℕ → ℕ)
@@ -102,9 +87,9 @@ module _ {S M : Type 0} (p : Plan S M) where
   -- cells are void still, and no key has changed but edited keys of cells that were marked.
   pub record Stood (l : ℕ) (first now : Contents) (events : List Event) : Type 0 where
     pub arrays : (c : ℕ) → InLane l c → is_void p c ≡ false → has_mark ((after (start_of p) events).cells c) ≡ false
-        → StandsFor p now.held c ((after (start_of p) events).arrays c)
-    pub voids : (c : ℕ) → InLane l c → is_void p c ≡ true → IsVoid p now.held c
-    pub keys : (key : List ℕ) → Untouched events key → now.held key ≡ first.held key
+        → StandsFor p (held_of now) c ((after (start_of p) events).arrays c)
+    pub voids : (c : ℕ) → InLane l c → is_void p c ≡ true → IsVoid p (held_of now) c
+    pub keys : (key : List ℕ) → Untouched events key → (held_of now) key ≡ (held_of first) key
 
   -- What is known of the store of a lane, as it was taken last: first is the store that the table was made with.
   pub record Known (l : ℕ) (first : S) (o : Taken S) (log : List Event) (views : List (Doing S M)) (ended : List Ended) : Type 0 where
@@ -117,7 +102,7 @@ module _ {S M : Type 0} (p : Plan S M) where
         → due o.at o.changes c ≡ Some ((after (start_of p) log).arrays c)
     -- as many puts as cells that went saved
     pub puts : IsTrue (p.shows first).told_log → (c : ℕ) → InLane l c
-        → puts_under (p.edited c) (p.shows o.store).log + saved_in c o.changes ≡ puts_under (p.edited c) (p.shows first).log + saves c log
+        → puts_under (p.edited c) (p.shows o.store).log + saved_in c o.changes ≡ puts_under (p.edited c) (p.shows first).log + times_saved c log
     -- at least as many gets as cells that went live, and one more for each slot that is filled
     pub gets : IsTrue (p.shows first).told_log → (c : ℕ) → InLane l c
         → gets_under (p.edited c) (p.shows first).log + (lives c log + total (filled c) views) ≤ gets_under (p.edited c) (p.shows o.store).log + times_in c o.fills
@@ -131,9 +116,9 @@ module _ {S M : Type 0} (p : Plan S M) where
     pub told_log : (p.shows store).told_log ≡ (p.shows o.store).told_log
     pub never_falls : (p.shows o.store).faults ≤ (p.shows store).faults
     pub arrays : IsTrue (p.shows o.store).told → (c : ℕ) → InLane o.lane c → is_void p c ≡ false → (array : ℕ → ℕ) → due o.at o.changes c ≡ Some array
-        → StandsFor p (p.shows store).held c array
-    pub voids : IsTrue (p.shows o.store).told → (c : ℕ) → InLane o.lane c → is_void p c ≡ true → IsVoid p (p.shows store).held c
-    pub keys : IsTrue (p.shows o.store).told → (key : List ℕ) → Untouched seen key → (p.shows store).held key ≡ (p.shows o.store).held key
+        → StandsFor p (held_of (p.shows store)) c array
+    pub voids : IsTrue (p.shows o.store).told → (c : ℕ) → InLane o.lane c → is_void p c ≡ true → IsVoid p (held_of (p.shows store)) c
+    pub keys : IsTrue (p.shows o.store).told → (key : List ℕ) → Untouched seen key → (held_of (p.shows store)) key ≡ (held_of (p.shows o.store)) key
     pub puts : IsTrue (p.shows o.store).told_log → (c : ℕ) → InLane o.lane c
         → puts_under (p.edited c) (p.shows store).log ≡ puts_under (p.edited c) (p.shows o.store).log + saved_in c o.changes
     pub gets : IsTrue (p.shows o.store).told_log → (c : ℕ) → InLane o.lane c

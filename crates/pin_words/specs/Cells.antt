@@ -1,8 +1,9 @@
 -- What the steps of slots, claims, fills and closings tell.
-use Rattle.std.specs.Prelude.{◌≡◌, ◌≢◌, ℕ, zero, suc, ◌+◌, ◌*◌, ◌<◌, ◌≤◌, Bool, true, false, IsTrue, List, [], ◌∷◌, ◌++◌, length, take, Option, Some, None, slice_index}
+use Rattle.std.specs.Prelude.{◌≡◌, ◌≢◌, ◌⊎◌, ℕ, zero, suc, ◌+◌, ◌*◌, ◌<◌, ◌≤◌, Bool, true, false, IsTrue, List, [], ◌∷◌, ◌++◌, length, take, Option, Some, None, slice_index}
 use Rattle.atomic_table.specs.Table.{Step}
 use Rattle.arr_history.specs.declared.event.Event.{Event}
 use Rattle.arr_history.specs.declared.event.Event.TheVariants as event
+use Rattle.arr_history.specs.Legal.{HasSlot}
 use Rattle.arr_history.specs.History.{after}
 use Rattle.pin_words.specs.declared.holding.Held.{Held}
 use Rattle.pin_words.specs.declared.holding.Left.{Left}
@@ -15,7 +16,7 @@ use Rattle.pin_words.specs.Account.{WasMarked, due}
 use Rattle.pin_words.specs.Layout.{live_word, slot_at, frame_at}
 use Rattle.pin_words.specs.Rule.{Sat}
 use Rattle.pin_words.specs.Finding.{pin, has_held, held_of, helds_without, left_of, lefts_without, claims_without}
-use Rattle.pin_words.specs.Tells.{Adds, Sees, ShowsCell, tried}
+use Rattle.pin_words.specs.Tells.{IsLone, Adds, Sees, ShowsCell, tried}
 
 abbrev pub held : ℕ → Option ℕ → List ℕ → Held
 held s filled words = record { slot = s; filled = filled; words = words }
@@ -38,14 +39,6 @@ scanned zero tries = tries
 scanned (suc n) tries = tried 9 n 1 ∷ scanned n tries
 
 module _ {S M : Type 0} where
-  -- a slot was free, and is the pass's
-  abbrev pub TakesSlot : Doing S M → ℕ → Doing S M → Type 0
-  TakesSlot d s d' = d' ≡ record d { slots = held s None [] ∷ d.slots; tries = tried 9 s 0 ∷ d.tries }
-
-  -- it was taken
-  abbrev pub MissesSlot : Doing S M → ℕ → Doing S M → Type 0
-  MissesSlot d s d' = d' ≡ record d { tries = tried 9 s 1 ∷ d.tries }
-
   abbrev pub GivesSlot : Doing S M → ℕ → Doing S M → Type 0
   GivesSlot d s d' = d' ≡ record d { slots = helds_without s d }
 
@@ -71,6 +64,31 @@ module _ {S M : Type 0} where
     pub rest : helds_without s d' ≡ helds_without s d
 
 module _ {S M : Type 0} (p : Plan S M) where
+  -- the pass has the slot, or a cell has it after these events
+  abbrev pub IsInUse : Doing S M → List Event → ℕ → Type 0
+  IsInUse d seen s = (has_held s d ≡ true) ⊎ ((c : ℕ) × (c < p.cells) × HasSlot ((after (start_of p) seen).cells c) s)
+
+  -- a slot was free, and is the pass's
+  abbrev pub TakesSlot : Doing S M → ℕ → Doing S M → Type 0
+  TakesSlot d s d' = Sees p d (record d { slots = held s None [] ∷ d.slots; tries = tried 9 s 0 ∷ d.tries }) d'
+
+  -- it was taken, where the pass is alone by the pass itself or a cell
+  abbrev pub MissesSlot : Doing S M → ℕ → Doing S M → Type 0
+  MissesSlot d s d' = Sees p d (record d { tries = tried 9 s 1 ∷ d.tries }) d' × (IsLone d → IsInUse d d'.seen s)
+
+  -- so were all slots below n
+  abbrev pub MissesSlots : Doing S M → ℕ → Doing S M → Type 0
+  MissesSlots d n d' = Sees p d (record d { tries = scanned n d.tries }) d' × (IsLone d → (s : ℕ) → s < n → IsInUse d d'.seen s)
+
+  -- after a try of each slot below n
+  abbrev pub HasScanned : Doing S M → ℕ → Doing S M → Type 0
+  HasScanned d zero d' = d' ≡ d
+  HasScanned d (suc n) d' = MissesSlots d (suc n) d'
+
+  -- all slots below s were taken, and s was free
+  abbrev pub TakesFirst : Doing S M → ℕ → Doing S M → Type 0
+  TakesFirst d s d' = Sees p d (record d { slots = held s None [] ∷ d.slots; tries = tried 9 s 0 ∷ scanned s d.tries }) d' × (IsLone d → (i : ℕ) → i < s → IsInUse d d'.seen i)
+
   -- the cell was absent, and is the pass's to load
   abbrev pub IsClaimed : Doing S M → ℕ → Doing S M → Type 0
   IsClaimed d c d' = Adds p d (event.Claim d.number c) (record d { claims = c ∷ d.claims; tries = tried 11 c 0 ∷ d.tries }) d'
@@ -114,7 +132,7 @@ module _ {S M : Type 0} (p : Plan S M) where
 -- The same as steps of the table, by what the table was told: at the word of a cell, of a slot, or of a place in a frame.
 module _ {S M : Type 0} (plan : M → Plan S M) where
   abbrev pub slots_taken : Step (Option S) → Sat S M → ℕ → Sat S M → Type 0
-  slots_taken st m n m' = (s : ℕ) → st.word ≡ slot_at (plan m.0.made) s → (m'.1 ≡ m.1) × (n ≡ 0 → TakesSlot m.0 s m'.0) × (n ≢ 0 → MissesSlot m.0 s m'.0)
+  slots_taken st m n m' = (s : ℕ) → st.word ≡ slot_at (plan m.0.made) s → (m'.1 ≡ m.1) × (n ≡ 0 → TakesSlot (plan m.0.made) m.0 s m'.0) × (n ≢ 0 → MissesSlot (plan m.0.made) m.0 s m'.0)
 
   abbrev pub slots_given : Step (Option S) → Sat S M → ℕ → Sat S M → Type 0
   slots_given st m n m' = (s : ℕ) → st.word ≡ slot_at (plan m.0.made) s → (m'.1 ≡ m.1) × GivesSlot m.0 s m'.0

@@ -6,18 +6,22 @@ use Rattle.atomic_table.specs.Table.{Step}
 use Rattle.arr_history.specs.declared.event.Event.{Event}
 use Rattle.arr_history.specs.History.{after}
 use Rattle.pin_words.specs.declared.holding.Left.{Left}
+use Rattle.pin_words.specs.declared.lane.Given.{Given}
 use Rattle.pin_words.specs.declared.lane.Taken.{Taken}
 use Rattle.pin_words.specs.declared.doing.Doing.{Doing}
 use Rattle.pin_words.specs.Plan.{Plan, start_of}
 use Rattle.pin_words.specs.Account.{times_in, has_mark, rise, rose, Stood}
 use Rattle.pin_words.specs.Layout.{lane_at}
-use Rattle.pin_words.specs.Words.{Each}
+use Rattle.pin_words.specs.Words.{given_to, Each}
 use Rattle.pin_words.specs.Rule.{Sat}
 use Rattle.pin_words.specs.Tells.{IsLone, Sees, tried}
 
 -- a lane whose store was just taken
 abbrev pub taken : {S : Type 0} → ℕ → S → List Event → Taken S
 taken l x at = record { lane = l; store = x; at = at; changes = []; fills = [] }
+
+abbrev pub gives : {S : Type 0} → ℕ → S → Given S
+gives l y = record { lane = l; store = y }
 
 module _ {S M : Type 0} (p : Plan S M) where
   -- The lane was free, and its store x is the pass's.
@@ -28,6 +32,8 @@ module _ {S M : Type 0} (p : Plan S M) where
         × (IsTrue (p.shows first).told → Stood p l (p.shows first) (p.shows x) d'.seen)
     -- the cells that the pass has claimed aren't marked, and those that it has closed have the marks that they had
     pub unmarked : (c : ℕ) → 0 < times_in c d.claims → has_mark ((after (start_of p) d'.seen).cells c) ≡ false
+    -- a pass that is alone gets back the store that it gave last
+    pub again : IsLone d → (y : S) → given_to l d.given ≡ Some y → x ≡ y
     pub closed : Each (λ (q : Left). has_mark ((after (start_of p) d'.seen).cells q.cell) ≡ q.marked) d.leaving
 
   -- another pass had it
@@ -36,7 +42,7 @@ module _ {S M : Type 0} (p : Plan S M) where
 
   -- the round with the lane ended with the store y
   abbrev pub GivesLane : Doing S M → Taken S → S → Doing S M → Type 0
-  GivesLane d o y d' = d' ≡ record d { lane = None; rises = slice_set d.rises o.lane (rise o.lane d + rose (p.shows o.store).faults (p.shows y).faults) }
+  GivesLane d o y d' = d' ≡ record d { lane = None; given = gives o.lane y ∷ d.given; rises = slice_set d.rises o.lane (rise o.lane d + rose (p.shows o.store).faults (p.shows y).faults) }
 
 module _ {S M : Type 0} (plan : M → Plan S M) where
   abbrev pub took : Step (Option S) → Sat S M → ℕ → Sat S M → Type 0

@@ -1,10 +1,9 @@
 -- What a table was told when it was made, and the limits and the arrays that follow from it.
-use Rattle.std.specs.Prelude.{◌≡◌, ℕ, ◌%◌, ◌<◌, ◌≤◌, Bool, false, List, Option, Some, None, is_none, length, slice_index}
-use mathlib.Core.Option as maybe
-use lib.ListN.{get_elem?}
+use Rattle.std.specs.Prelude.{◌≡◌, ℕ, ◌%◌, ◌<◌, ◌≤◌, Bool, List, Option, length, map}
 use Rattle.cell_store.specs.Store.{Contents}
-use Rattle.arr_history.specs.State.{State, opening}
+use Rattle.arr_history.specs.State.{State}
 use Rattle.arr_history.specs.Shape.{Shape}
+use Rattle.stood_arrays.specs.Opening as opens
 
 -- S is a store, and M what the table was told, as a pass keeps it.
 pub record Plan (S M : Type 0) : Type 0 where
@@ -37,33 +36,21 @@ module _ {S M : Type 0} (p : Plan S M) where
   abbrev pub lane_of : ℕ → ℕ
   lane_of c = c % p.lanes
 
-  -- the store of a cell, as the table was made with it
-  abbrev pub store_of : ℕ → maybe.Option S
-  store_of c = get_elem? p.stores (lane_of c)
-
-  abbrev pub told_by : maybe.Option S → Bool
-  told_by maybe.none = false
-  told_by (maybe.some x) = (p.shows x).told
-
-  abbrev pub standing_by : maybe.Option S → ℕ → Option (List ℕ)
-  standing_by maybe.none c = None
-  standing_by (maybe.some x) c = p.standing (p.shows x).held c
+  -- what the stores show that the table was made with
+  abbrev pub shown : List Contents
+  shown = map p.shows p.stores
 
   -- whether the cell's store tells its bytes
   abbrev pub is_told : ℕ → Bool
-  is_told c = told_by (store_of c)
+  is_told = opens.is_told p.lanes shown
 
   -- whether the cell has no array
   abbrev pub is_void : ℕ → Bool
-  is_void c = is_none (standing_by (store_of c) c)
-
-  abbrev pub array_of : Option (List ℕ) → ℕ → ℕ
-  array_of None i = 0
-  array_of (Some values) i = slice_index values i
+  is_void = opens.is_void p.standing p.lanes shown
 
   abbrev pub shape_of : Shape
-  shape_of = record { cells = p.cells; slots = p.slots; voxels = p.voxels; greatest = p.greatest; is_void = is_void; is_told = is_told }
+  shape_of = opens.shape_over_stores p.cells p.slots p.voxels p.greatest p.standing p.lanes shown
 
   -- the state in which the table was made: no cell is live, and the arrays are those that the stores stand for
   abbrev pub start_of : State
-  start_of = opening (λ c i. array_of (standing_by (store_of c) c) i)
+  start_of = opens.start_over_stores p.standing p.lanes shown

@@ -57,6 +57,8 @@ module _ {S M : Type 0} (p : Plan S M) where
   -- A view that is no pass any more holds nothing.
   pub record HoldsNone (d : Doing S M) : Type 0 where
     pub pins : d.pins ≡ []
+    pub claims : d.claims ≡ []
+    pub leaving : d.leaving ≡ []
     pub slots : d.slots ≡ []
     pub lane : d.lane ≡ None
     pub rises : d.rises ≡ []

@@ -1,5 +1,5 @@
 -- What the words and the homes of a table show of a history, part by part.
-use Rattle.std.specs.Prelude.{◌≡◌, ℕ, zero, suc, ◌+◌, ◌<◌, ◌≤◌, false, IsTrue, List, [], ◌∷◌, length, slice_index, Option, Some}
+use Rattle.std.specs.Prelude.{◌≡◌, ℕ, zero, suc, ◌+◌, ◌<◌, ◌≤◌, ◌==◌, cond, false, IsTrue, List, [], ◌∷◌, length, slice_index, Option, Some, None}
 use mathlib.Core.Option.{some}
 use mathlib.Core.Option as maybe
 use lib.ListN.{get_elem?}
@@ -11,16 +11,18 @@ use Rattle.arr_history.specs.Legal.{HasSlot}
 use Rattle.arr_history.specs.History.{after, pass_of}
 use Rattle.pass_roster.specs.History.{total}
 use Rattle.pass_roster.specs.Roster.{Passes}
+use Rattle.pass_roster.specs.Ends.{AllJoined}
 use Rattle.pin_words.specs.declared.holding.Pin.{Pin}
 use Rattle.pin_words.specs.declared.holding.Held.{Held}
 use Rattle.pin_words.specs.declared.holding.Left.{Left}
+use Rattle.pin_words.specs.declared.lane.Given.{Given}
 use Rattle.pin_words.specs.declared.lane.Taken.{Taken}
 use Rattle.pin_words.specs.declared.doing.Ended.{Ended}
 use Rattle.pin_words.specs.declared.doing.Doing.{Doing}
 use Rattle.pin_words.specs.declared.doing.Stage.{Stage}
 use Rattle.pin_words.specs.declared.doing.Stage.TheVariants.{Spent, Visiting}
 use Rattle.pin_words.specs.Plan.{Plan, is_told, is_void, start_of}
-use Rattle.pin_words.specs.Account.{one, Known}
+use Rattle.pin_words.specs.Account.{one, times_in, Known}
 use Rattle.pin_words.specs.Layout.{cell_at, slot_at, lane_at, frame_at, word_count, face}
 
 -- 1 while the pass is out, and 0 once it was joined
@@ -45,6 +47,10 @@ passes = record {
   ended_mine = λ x. x.mine;
 }
 
+-- the first pass, while all others are joined into it
+abbrev pub IsLone : {S M : Type 0} → Doing S M → Type 0
+IsLone d = (d.number ≡ 0) × AllJoined passes d
+
 -- how often a cell, or a slot, stands in a list
 abbrev pub times : ℕ → List Pin → ℕ
 times c = total (λ q. one q.cell c)
@@ -60,12 +66,12 @@ visits c (Visiting d) = one d c
 visits c other = 0
 
 -- what a pass adds to the count in a cell's word
-abbrev pub counts : {S M : Type 0} → ℕ → Doing S M → ℕ
-counts c d = times c d.pins + visits c d.stage
+abbrev pub doing_counts : {S M : Type 0} → ℕ → Doing S M → ℕ
+doing_counts c d = times c d.pins + visits c d.stage
 
 -- how often a pass holds a slot
-abbrev pub holding : {S M : Type 0} → ℕ → Doing S M → ℕ
-holding s d = times_held s d.slots
+abbrev pub slots_held : {S M : Type 0} → ℕ → Doing S M → ℕ
+slots_held s d = times_held s d.slots
 
 -- 1 where a cell in this state has the slot
 abbrev pub in_slot : ℕ → CellState → ℕ
@@ -73,10 +79,25 @@ in_slot s (cell.Live slot mark) = one slot s
 in_slot s (cell.Leaving k slot mark) = one slot s
 in_slot s other = 0
 
+-- 1 where a pass loads a cell in this state, or turns it out
+abbrev pub in_work : CellState → ℕ
+in_work (cell.Loading k) = 1
+in_work (cell.Leaving k slot mark) = 1
+in_work other = 0
+
+-- how often a pass has claimed a cell, or has closed it
+abbrev pub works : {S M : Type 0} → ℕ → Doing S M → ℕ
+works c d = times_in c d.claims + times_left c d.leaving
+
+-- the store that was given back last, of a lane
+abbrev pub given_to : {S : Type 0} → ℕ → List (Given S) → Option S
+given_to l [] = None
+given_to l (g ∷ gs) = cond (g.lane == l) (Some g.store) (given_to l gs)
+
 -- the sum over the numbers below n
-abbrev pub over : (ℕ → ℕ) → ℕ → ℕ
-over f zero = 0
-over f (suc n) = f n + over f n
+abbrev pub sum_over : (ℕ → ℕ) → ℕ → ℕ
+sum_over f zero = 0
+sum_over f (suc n) = f n + sum_over f n
 
 abbrev pub Each : {A : Type 0} → (A → Type 0) → List A → Type 0
 Each P [] = Unit {0}
@@ -85,12 +106,14 @@ Each P (x ∷ xs) = P x × Each P xs
 module _ {S M : Type 0} (p : Plan S M) where
   -- A cell's word has the state, the mark and the slot of the cell, and its count is that of the pins and of the passes on their way back.
   pub record CellsOk (w : State) (words : List ℕ) (views : List (Doing S M)) : Type 0 where
-    pub each : (c : ℕ) → c < p.cells → slice_index words (cell_at p c) ≡ face (w.cells c) + total (counts c) views
+    pub each : (c : ℕ) → c < p.cells → slice_index words (cell_at p c) ≡ face (w.cells c) + total (doing_counts c) views
     pub beyond : (c : ℕ) → p.cells ≤ c → w.cells c ≡ cell.Absent
+    -- a cell that is being loaded or turned out is so by one pass that is out
+    pub worked : (c : ℕ) → c < p.cells → in_work (w.cells c) ≡ total (works c) views
 
   -- A slot's word is 1 where the slot is that of a live or leaving cell or is held by a pass, and it never has two owners.
   pub record SlotsOk (w : State) (words : List ℕ) (views : List (Doing S M)) : Type 0 where
-    pub each : (s : ℕ) → s < p.slots → slice_index words (slot_at p s) ≡ total (holding s) views + over (λ c. in_slot s (w.cells c)) p.cells
+    pub each : (s : ℕ) → s < p.slots → slice_index words (slot_at p s) ≡ total (slots_held s) views + sum_over (λ c. in_slot s (w.cells c)) p.cells
     pub taken : (s : ℕ) → s < p.slots → slice_index words (slot_at p s) < 2
     pub low : (c s : ℕ) → 0 < in_slot s (w.cells c) → s < p.slots
 
@@ -122,6 +145,10 @@ module _ {S M : Type 0} (p : Plan S M) where
     pub holds : (j : ℕ) (d : Doing S M) (o : Taken S) → get_elem? views j ≡ some d → d.lane ≡ Some o
         → (o.lane < p.lanes) × (slice_index words (lane_at p o.lane) ≡ 1) × (owner o.lane ≡ j) × (entry o.lane ≡ o)
 
+  -- The store of a lane is the one that a lone pass gave back last.
+  abbrev pub GivenOk : (ℕ → Taken S) → List (Doing S M) → Type 0
+  GivenOk entry views = (j : ℕ) (d : Doing S M) (l : ℕ) (x : S) → get_elem? views j ≡ some d → out d ≡ 1 → IsLone d → given_to l d.given ≡ Some x → (entry l).store ≡ x
+
   -- what is known of the store of each lane
   abbrev pub Knowns : (ℕ → Taken S) → List Event → List (Doing S M) → List Ended → Type 0
   Knowns entry log views ended = (l : ℕ) (x : S) → get_elem? p.stores l ≡ some x → Known p l x (entry l) log views ended
@@ -137,3 +164,4 @@ module _ {S M : Type 0} (p : Plan S M) where
     pub frames : FramesOk (after (start_of p) log) words views
     pub lanes : LanesOk owner entry words homes views
     pub known : Knowns entry log views ended
+    pub given : GivenOk entry views

@@ -1,7 +1,7 @@
 //! What a pass knows and does. No value of these types is made.
 
 use crate::holding::{Held, Left, Pin};
-use crate::lane::Taken;
+use crate::lane::{Given, Taken};
 use arr_history::Event;
 use std::collections::LinkedList;
 
@@ -47,6 +47,8 @@ pub struct Doing<S, M> {
     pub slots: LinkedList<Held>,
     pub leaving: LinkedList<Left>,
     pub lane: Option<Taken<S>>,
+    /// The stores with which it gave lanes back since another pass was last out beside it, the last first.
+    pub given: LinkedList<Given<S>>,
     /// For each lane, the rounds with its store over which the store's count of faults rose.
     pub rises: LinkedList<u64>,
     /// Its compare-exchanges, the last first.

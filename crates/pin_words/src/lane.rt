@@ -10,6 +10,12 @@ pub struct Change {
     pub at: LinkedList<Event>,
 }
 
+/// The store with which a pass gave a lane back.
+pub struct Given<S> {
+    pub lane: u32,
+    pub store: S,
+}
+
 /// A lane of the pass: its store and the history as they were at the taking, and what the pass has done since, the last first.
 pub struct Taken<S> {
     pub lane: u32,

@@ -7,4 +7,4 @@ mod lane;
 
 pub use doing::{Doing, Ended, Stage, Try};
 pub use holding::{Held, Left, Pin};
-pub use lane::{Change, Taken};
+pub use lane::{Change, Given, Taken};

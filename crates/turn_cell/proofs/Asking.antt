@@ -9,7 +9,7 @@ use Rattle.turn_cell.specs.declared.views.Stage.TheVariants.{Spent, Idle, Holds,
 use Rattle.turn_cell.specs.Entry.{StepRule, entry, Leads}
 use Rattle.turn_cell.specs.PassView.{stage_kind}
 use Rattle.turn_cell.specs.Plays.{Taken, adding}
-use Rattle.turn_cell.specs.Turn.{Asked}
+use Rattle.turn_cell.specs.Turn.{AskedTurn}
 
 module _ {T C R : Type 0} where
   idle_is : (st : Stage T C R) → stage_kind st ≡ 1 → st ≡ Idle
@@ -20,7 +20,7 @@ module _ {T C R : Type 0} where
 
   -- `d1` is the view with the value x, which the call c turns into y
   pub asks : (steps : StepRule T C R) (x0 : T) (d d1 d2 : PassView T C R) (k : ℕ) (x y : T) (c told : C) (a : R) → Taken steps d x d1 → stage_kind d.stage ≡ 1 → d.opening ≡ Some x0 → k ≡ d.number → steps x k c a y → told ≡ c
-      → d2 ≡ adding d1 (entry d1.number told a) → Asked steps x0 c a d d2
+      → d2 ≡ adding d1 (entry d1.number told a) → AskedTurn steps x0 c a d d2
   asks steps x0 d d1 d2 k x y c told a t idle opened num did is e = record {
     between = t.between;
     before = x;

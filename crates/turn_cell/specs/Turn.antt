@@ -24,7 +24,7 @@ module _ {T C R : Type 0} where
     pub opened : (view p).opening ≡ Some (opened_at t)
 
 -- A pass has made this call and got this reply. The history began with all that it had seen, then came what others had called, then the call, at whose place in the history the reply is the object's.
-pub record Asked {T C R : Type 0} (steps : StepRule T C R) (opening : T) (call : C) (reply : R) (d d' : PassView T C R) : Type 0 where
+pub record AskedTurn {T C R : Type 0} (steps : StepRule T C R) (opening : T) (call : C) (reply : R) (d d' : PassView T C R) : Type 0 where
   pub between : List (Entry C R)
   pub before : T
   pub after : T

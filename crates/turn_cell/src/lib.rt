@@ -13,6 +13,3 @@ pub use laws::{each_call_is_a_step, turns_cross_threads};
 pub use pass::{Pass, TurnPass};
 pub use seq::Seq;
 pub use turn::Turn;
-
-#[cfg(test)]
-mod tests;

@@ -25,7 +25,7 @@ impl<T: Seq> Turn<T> {
     ghost use Rattle.turn_cell.specs.Entry.{Leads};
     ghost use Rattle.turn_cell.specs.PassView.{passes, starting, parent, child};
     ghost use Rattle.turn_cell.specs.Plays.{Rejoined};
-    ghost use Rattle.turn_cell.specs.Turn.{opened_at, view, IsPassOf, Asked};
+    ghost use Rattle.turn_cell.specs.Turn.{opened_at, view, IsPassOf, AskedTurn};
 
     /// A turn with the value at home, and its first pass, which has the number 0. The value comes
     /// back where memory is wanting.
@@ -64,7 +64,7 @@ impl<T: Seq> Turn<T> {
     pub fn ask<R: Wait>(&self, rt: &R, pass: &mut TurnPass<T>, call: T::Call) -> T::Reply
         requires { IsPassOf self.now pass.old }
         ensures pass { IsPassOf self.now pass.new }
-        ensures asked { Asked T.steps (opened_at self.now) call result (view pass.old) (view pass.new) }
+        ensures asked { AskedTurn T.steps (opened_at self.now) call result (view pass.old) (view pass.new) }
     {
         let seat = &mut pass.seat;
         let words = &self.table.shared;

@@ -1,4 +1,4 @@
-use Rattle.std.proofs.Common.{rules, ap, refl, ◌∙◌, ◌/◌, Option, Some, subst}
+use Rattle.std.proofs.Common.{rules, length, ap, refl, ◌∙◌, ◌/◌, Option, Some, subst}
 use Rattle.pin_words.specs.Pins as pins
 use Rattle.pin_words.proofs.Visiting.{visits_cell, goes_back, missed_after}
 use Rattle.pin_rule.specs.Plans.{plan_of}
@@ -22,7 +22,7 @@ pub returns-then-found-eq2-clause-done : goal.returns-then-found-eq2-clause-done
 returns-then-found-eq2-clause-done g c = (subst (λ (m : Option _). pins.IsPinned (plan_of g.S.Store.contents m) c.args.seat.now.me.0 c.args.cell (c.fetch_add-found.result / 4294967296) c.fetch_add-found.new.seat.me.0) c.requires.rests.0 ((c.fetch_add-found.ensures.2.1 c.args.cell refl).0 (search rules)), search rules)
 
 pub returns-clause-seat : goal.returns-clause-seat
-returns-clause-seat g c = let n = number_as c.args.seat.now.me.0 c.fetch_add-found.new.seat.me.0 _ ((c.fetch_add-found.ensures.2.1 c.args.cell refl).1 (search rules)).0.is refl in (search rules, search rules, (ap (λ m. m.0.number) c.fetch_sub.ensures.2 ∙ n.0, ap (λ m. m.0.drawn) c.fetch_sub.ensures.2 ∙ n.1))
+returns-clause-seat g c = let n = number_as c.args.seat.now.me.0 c.fetch_add-found.new.seat.me.0 _ ((c.fetch_add-found.ensures.2.1 c.args.cell refl).1 (search rules)).0.is refl in (search rules, search rules, (ap (λ m. m.0.number) c.fetch_sub.ensures.2 ∙ n.0, ap (λ m. m.0.drawn) c.fetch_sub.ensures.2 ∙ n.1, ap (λ m. length m.0.rises) c.fetch_sub.ensures.2 ∙ n.2))
 
 pub returns-clause-rests : goal.returns-clause-rests
 returns-clause-rests g c = visit_rests c.args.seat.now.me c.fetch_add-found.new.seat.me c.fetch_sub.new.seat.me c.args.words.now.key _ c.requires.rests c.fetch_add-found.ensures.2.0 ((c.fetch_add-found.ensures.2.1 c.args.cell refl).1 (search rules)).0.is refl refl c.fetch_sub.ensures.2

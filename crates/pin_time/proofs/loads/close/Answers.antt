@@ -4,4 +4,4 @@ use Rattle.pin_rule.proofs.Trying.{closed_one}
 use Rattle.pin_time.proofs.loads.close.Goals as goal
 
 pub returns-in-Ok-clause-done : goal.returns-in-Ok-clause-done
-returns-in-Ok-clause-done c = let k = c.in-Ok.ensures.done in let r = closed_one _ (view c.args.pass.now) (view c.try_close.new.pass) c.args.cell c.args.slot false c.requires.bare k.3 in (k.0, k.1, k.2, r.0, r.1)
+returns-in-Ok-clause-done c = let k = c.in-Ok.ensures.done in let r = closed_one _ (view c.args.pass.now) (view c.try_close.new.pass) c.args.cell c.args.slot false c.requires.bare k.4 in (k.0, k.1, k.2, r.0, r.1)

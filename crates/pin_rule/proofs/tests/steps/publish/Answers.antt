@@ -1,5 +1,0 @@
-use Rattle.pin_rule.specs.Calls.{view}
-use Rattle.pin_rule.proofs.tests.steps.publish.Goals as goal
-
-pub give_lane-requires-clause-fits : goal.give_lane-requires-clause-fits
-give_lane-requires-clause-fits g c = c.requires.home (view c.fill.new.pass) c.fill.ensures.done

@@ -1,5 +1,0 @@
-use Rattle.turn_cell.specs.Turn.{IsPassOf}
-use Rattle.turn_cell.proofs.tests.counter.add_many.Given as goal
-
-abbrev pub invariant-loop : goal.invariant-loop
-invariant-loop g l = IsPassOf l.turn l.pass

@@ -1,2 +1,0 @@
-mod counter;
-mod numbers;
