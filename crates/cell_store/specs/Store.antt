@@ -1,6 +1,9 @@
 -- What contracts see of a store, and what its calls say of it.
 use Rattle.std.specs.Prelude.{◌≡◌, ◌≢◌, ◌⊎◌, ℕ, ◌<◌, ◌≤◌, Bool, true, false, IsTrue, List, [], ◌∷◌, ◌++◌, length, Option, None, Some, if◌then◌else◌}
 use Rattle.std.specs.Str.{bytes_eq}
+use Rattle.std.specs.Map.{lookup}
+use Rattle.std.specs.Ordering.{is_eq, nat_cmp}
+use Rattle.std.specs.Cmp.Lexicographic.{slice_cmp}
 use Rattle.cell_store.specs.Faults.{Rose}
 use Rattle.cell_store.specs.declared.store.Got.{Got}
 use Rattle.cell_store.specs.declared.store.Got.TheVariants as got
@@ -15,18 +18,25 @@ pub record Entry : Type 0 where
 
 -- what a store shows of itself
 pub record Contents : Type 0 where
-  -- whether it tells what it holds, and the bytes under each key, where it tells
+  -- whether it tells what it holds, and the keys with their bytes, where it tells
   pub told : Bool
-  pub held : List ℕ → Option (List ℕ)
+  pub texts : List (List ℕ × List ℕ)
   -- whether it tells its log, and the log, where it tells
   pub told_log : Bool
   pub log : List Entry
   -- how often the outside failed
   pub faults : ℕ
 
+-- the bytes under a key
+abbrev pub bytes_under : List (List ℕ × List ℕ) → List ℕ → Option (List ℕ)
+bytes_under texts key = lookup (λ k. is_eq (slice_cmp nat_cmp key k)) texts
+
+abbrev pub held_of : Contents → List ℕ → Option (List ℕ)
+held_of c = bytes_under c.texts
+
 -- what a store shows that tells neither what it holds nor its log
 abbrev pub untold : ℕ → Contents
-untold faults = record { told = false; held = λ _. None; told_log = false; log = []; faults = faults }
+untold faults = record { told = false; texts = []; told_log = false; log = []; faults = faults }
 
 -- what a get answers where a key holds these bytes, or nothing
 abbrev pub GetGives : Option (List ℕ) → ℕ → Got → List ℕ → Type 0
@@ -79,10 +89,10 @@ LogsPut old new key puts.Done = new ≡ old ++ record { put = true; key = key; o
 
 -- what a get does
 pub record Gets (old new : Contents) (key : List ℕ) (limit : ℕ) (answer : Got) (into : List ℕ) : Type 0 where
-  pub gives : IsTrue old.told → GetGives (old.held key) limit answer into
+  pub gives : IsTrue old.told → GetGives ((held_of old) key) limit answer into
   pub keeps : KeepsTo limit answer into
   pub empty : answer ≢ got.Found → into ≡ []
-  pub unchanged : IsTrue old.told → new.held ≡ old.held
+  pub unchanged : IsTrue old.told → (held_of new) ≡ (held_of old)
   pub logged : IsTrue old.told_log → LogsGet old.log new.log key answer
   pub told : new.told ≡ old.told
   pub told_log : new.told_log ≡ old.told_log
@@ -91,7 +101,7 @@ pub record Gets (old new : Contents) (key : List ℕ) (limit : ℕ) (answer : Go
 
 -- what a put does
 pub record Puts (old new : Contents) (key bytes : List ℕ) (answer : Put) : Type 0 where
-  pub leaves : IsTrue old.told → PutLeaves old.held new.held key bytes answer
+  pub leaves : IsTrue old.told → PutLeaves (held_of old) (held_of new) key bytes answer
   pub logged : IsTrue old.told_log → LogsPut old.log new.log key answer
   pub told : new.told ≡ old.told
   pub told_log : new.told_log ≡ old.told_log

@@ -15,8 +15,8 @@ pub record Stream : Type 0 where
   pub faults : ℕ
 
 -- what a source or a sink shows that doesn't tell its bytes
-abbrev pub untold : ℕ → Stream
-untold faults = record { told = false; bytes = []; faults = faults }
+abbrev pub untold_stream : ℕ → Stream
+untold_stream faults = record { told = false; bytes = []; faults = faults }
 
 -- a read that took bytes took from 1 to as many as there was room for
 abbrev pub TookAtMost : Took → ℕ → Type 0

@@ -1,6 +1,6 @@
 // A file as a source.
 ghost use Rattle.std.specs.Prelude.{◌≡◌, ◌+◌, ◌-◌, ◌^◌, ◌<◌, ◌≤◌, IfOk, IfSome, length, min};
-ghost use Rattle.cell_store.specs.Stream.{untold};
+ghost use Rattle.cell_store.specs.Stream.{untold_stream};
 
 use crate::{Source, Took};
 use std::alloc::{AllocError, Global};
@@ -21,7 +21,7 @@ pub struct FileSource<R: Files + Drop> {
 impl<R: Files + Drop> FileSource<R> {
     /// The source of this file, which isn't opened yet.
     pub fn at(rt: R, alloc: Global, path: &str) -> Result<FileSource<R>, AllocError>
-        ensures { IfOk result (λ source. ⟦<FileSource<R> as Source>⟧.stream source ≡ untold 0) }
+        ensures { IfOk result (λ source. ⟦<FileSource<R> as Source>⟧.stream source ≡ untold_stream 0) }
     {
         let path = String::from_str(alloc, path)?;
         Ok(FileSource {
@@ -34,7 +34,7 @@ impl<R: Files + Drop> FileSource<R> {
 }
 
 impl<R: Files + Drop> Source for FileSource<R> {
-    ghost stream = { λ s. untold s.faults };
+    ghost stream = { λ s. untold_stream s.faults };
 
     fn read(&mut self, into: &mut [u8]) -> Took {
         if self.file.is_none() {

@@ -3,6 +3,7 @@
 
 mod calls;
 mod file_source;
+mod files;
 mod folder_store;
 #[cfg(test)]
 mod halting;
@@ -13,6 +14,7 @@ mod mem_store;
 mod std_sink;
 mod store;
 mod stream;
+mod undo;
 
 pub use file_source::FileSource;
 pub use folder_store::FolderStore;
@@ -23,3 +25,4 @@ pub use mem_store::MemStore;
 pub use std_sink::StdSink;
 pub use store::{Got, Put, Store};
 pub use stream::{Gave, Sink, Source, Took};
+pub use undo::{Folder, settle};

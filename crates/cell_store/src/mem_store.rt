@@ -1,8 +1,8 @@
 // A store in memory, some of whose calls fail.
 ghost use Rattle.std.specs.Prelude.{◌≡◌, ◌≢◌, ◌⊎◌, ◌+◌, ◌-◌, ◌/◌, ◌^◌, ◌≤◌, ℕ, List, [], ◌∷◌, ◌++◌, Bool, true, false, IsTrue, OnOk, OnErr, length, min, take, if◌then◌else◌};
 ghost use Rattle.cell_store.specs.Calls.{counted, fails_next};
-ghost use Rattle.cell_store.specs.Held.{held_in, entries_of};
-ghost use Rattle.cell_store.specs.Store.{Entry, Gets, Puts, GetGives, KeepsTo, SameElsewhere, put_in, is_ok_get};
+ghost use Rattle.cell_store.specs.Held.{held_in, texts_in, entries_of};
+ghost use Rattle.cell_store.specs.Store.{Entry, Gets, Puts, GetGives, KeepsTo, SameElsewhere, held_of, put_in, is_ok_get};
 
 use crate::calls::Calls;
 use crate::{Got, Logged, Put, Store};
@@ -24,7 +24,7 @@ impl MemStore {
 
     /// A store that holds `held`, and whose calls of the numbers in `fail` answer `Failed`. It takes no memory.
     pub fn new(alloc: Global, held: BTreeMap<String, Vec<u8>>, fail: Vec<u64>) -> MemStore
-        ensures contents { contents_of result ≡ record { told = true; held = held_in held; told_log = true; log = []; faults = 0 } }
+        ensures contents { contents_of result ≡ record { told = true; texts = texts_in held; told_log = true; log = []; faults = 0 } }
         ensures calls { calls_of result ≡ record { failing = fail.items; made = 0; faults = 0 } }
     {
         MemStore {
@@ -37,7 +37,7 @@ impl MemStore {
 
     /// What it holds.
     pub fn held(&self) -> &BTreeMap<String, Vec<u8>>
-        ensures { held_in result.now ≡ (contents_of self.now).held }
+        ensures { held_in result.now ≡ (held_of (contents_of self.now)) }
     {
         &self.held
     }
@@ -82,7 +82,7 @@ impl Store for MemStore {
         ensures counts { calls_of self.new ≡ counted (calls_of self.old) }
         ensures failed { result ≡ Put.Failed → IsTrue (fails_next (calls_of self.old)) }
         ensures fails { IsTrue (fails_next (calls_of self.old)) → (result ≡ Put.Failed) ⊎ (result ≡ Put.NoMemory) }
-        ensures half { result ≡ Put.Failed → (other : List ℕ) → (contents_of self.new).held other ≡ put_in (contents_of self.old).held key.now (take (length bytes.now / 2) bytes.now) other }
+        ensures half { result ≡ Put.Failed → (other : List ℕ) → (held_of (contents_of self.new)) other ≡ put_in (held_of (contents_of self.old)) key.now (take (length bytes.now / 2) bytes.now) other }
     {
         let fails = self.calls.next_fails();
         let kept = if fails {
@@ -109,6 +109,7 @@ fn is_answer(got: Got) -> bool
 }
 
 /// Copies what a key holds into an empty buffer.
+#[tactic(auto, using(crate::proofs::TextLemmas::held_by_text))]
 fn copy_out(held: &BTreeMap<String, Vec<u8>>, key: &str, limit: u64, into: &mut Vec<u8>) -> Got
     requires { into.old.items ≡ [] }
     ensures answer { GetGives (held_in held.now key.now) limit result into.new.items }

@@ -1,6 +1,6 @@
 // Standard output as a sink.
 ghost use Rattle.std.specs.Prelude.{◌≡◌, ◌+◌, ◌-◌, ◌^◌, ◌<◌, ◌≤◌, IfSome, length, min};
-ghost use Rattle.cell_store.specs.Stream.{untold};
+ghost use Rattle.cell_store.specs.Stream.{untold_stream};
 
 use crate::{Gave, Sink};
 use std::io::{self, ErrorKind, Write};
@@ -15,14 +15,14 @@ pub struct StdSink<P: Print + Drop> {
 impl<P: Print + Drop> StdSink<P> {
     /// The sink of this runtime's output. It takes no memory.
     pub fn new(rt: P) -> StdSink<P>
-        ensures { ⟦<StdSink<P> as Sink>⟧.stream result ≡ untold 0 }
+        ensures { ⟦<StdSink<P> as Sink>⟧.stream result ≡ untold_stream 0 }
     {
         StdSink { rt, faults: 0 }
     }
 }
 
 impl<P: Print + Drop> Sink for StdSink<P> {
-    ghost stream = { λ s. untold s.faults };
+    ghost stream = { λ s. untold_stream s.faults };
 
     fn write(&mut self, bytes: &[u8]) -> Gave {
         match write_some(&mut io::writer(&self.rt), bytes) {
