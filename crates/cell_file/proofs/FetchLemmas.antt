@@ -1,7 +1,7 @@
 -- What one or two gets say of a fetch.
 use Rattle.std.proofs.Common.{◌≡◌, ◌∙◌, inl, inr, ℕ, ◌<◌, true, false, IsTrue, List, [], ◌∷◌, ◌++◌, length, Option, None, Some, Result, Ok, Err, IfErr, refl, sym, ap, subst, arith, append_assoc}
 use Rattle.cell_grid.specs.declared.level.Level.{Level}
-use Rattle.cell_store.specs.Store.{Contents, Entry, Gets, GetGives, LogsGet}
+use Rattle.cell_store.specs.Store.{Contents, Entry, Gets, GetGives, LogsGet, held_of}
 use Rattle.cell_store.specs.declared.store.Got.{Got}
 use Rattle.cell_store.specs.declared.store.Got.TheVariants as got
 use Rattle.cell_file.specs.declared.errors.FetchErr.{FetchErr}
@@ -113,14 +113,14 @@ second_logs_refusal levels cell old mid new edited base got.NoMemory bytes err f
 -- a fetch by a get of each key
 pub two_values : (levels : List Level) (keys : KeyNames) (cell : ℕ) (old mid new : Contents) (answer : Got) (into bytes values : List ℕ)
     → Gets old mid (edited_key levels cell) (limit_of levels cell) got.Missing into → Gets mid new (base_key levels keys cell) (limit_of levels cell) answer bytes → IsTrue old.told
-    → GivesValues levels cell answer bytes values → standing levels keys old.held cell ≡ Some values
+    → GivesValues levels cell answer bytes values → standing levels keys (held_of old) cell ≡ Some values
 two_values levels keys cell old mid new answer into bytes values f s told v =
-    second_values levels keys cell old.held answer bytes values (f.gives told)
+    second_values levels keys cell (held_of old) answer bytes values (f.gives told)
     (subst (λ (held : List ℕ → Option (List ℕ)). GetGives (held (base_key levels keys cell)) (limit_of levels cell) answer bytes) (f.unchanged told) (s.gives (f.told ∙ told))) v
 
 pub two_refusal : (levels : List Level) (keys : KeyNames) (cell : ℕ) (old mid new : Contents) (answer : Got) (into bytes : List ℕ)
     → Gets old mid (edited_key levels cell) (limit_of levels cell) got.Missing into → Gets mid new (base_key levels keys cell) (limit_of levels cell) answer bytes → IsTrue old.told
-    → (err : FetchErr) → GivesRefusal levels cell false answer bytes err → IsCauseOf (refusal_of levels keys old.held cell) err
+    → (err : FetchErr) → GivesRefusal levels cell false answer bytes err → IsCauseOf (refusal_of levels keys (held_of old) cell) err
 two_refusal levels keys cell old mid new answer into bytes f s told err r =
-    second_refusal levels keys cell old.held answer bytes err (f.gives told)
+    second_refusal levels keys cell (held_of old) answer bytes err (f.gives told)
     (subst (λ (held : List ℕ → Option (List ℕ)). GetGives (held (base_key levels keys cell)) (limit_of levels cell) answer bytes) (f.unchanged told) (s.gives (f.told ∙ told))) r

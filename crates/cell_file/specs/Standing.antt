@@ -5,7 +5,7 @@ use Rattle.cell_grid.specs.declared.level.Level.{Level}
 use Rattle.cell_grid.specs.Kind.{bytes_of}
 use Rattle.cell_grid.specs.Pyramid.{sides_of, full_of, voxels_of, kind_of}
 use Rattle.n5_block.specs.declared.block_err.BlockErr.{BlockErr}
-use Rattle.n5_block.specs.Rules.{broken_rule}
+use Rattle.n5_block.specs.Rules.{broken_block_rule}
 use Rattle.n5_block.specs.Values.{values_in}
 use Rattle.cell_file.specs.declared.errors.FetchErr.{FetchErr}
 use Rattle.cell_file.specs.declared.errors.FetchErr.TheVariants.{Malformed, TooLong}
@@ -23,7 +23,7 @@ abbrev pub block_values : List Level → ℕ → List ℕ → Option (List ℕ)
 block_values levels cell bytes = values_in (width_of levels cell) (sides_of levels cell) (full_of levels cell) bytes
 
 abbrev pub block_rule : List Level → ℕ → List ℕ → Option BlockErr
-block_rule levels cell bytes = broken_rule (width_of levels cell) (sides_of levels cell) (full_of levels cell) bytes
+block_rule levels cell bytes = broken_block_rule (width_of levels cell) (sides_of levels cell) (full_of levels cell) bytes
 
 -- the values that the bytes that decide give, where they are no longer than allowed and a good block
 abbrev pub values_of : List Level → ℕ → List ℕ → Option (List ℕ)

@@ -10,10 +10,10 @@ pub enum FetchErr {
     ReadFault,
     /// The bytes that decide are no block of the cell: those under its edited key where that is held, else those under
     /// its base key.
-    #[error("the block is refused: {err}")]
+    #[error("the bytes are no block of the cell")]
     Malformed { edited: bool, err: BlockErr },
     /// The bytes that decide are more than the cell's full block has.
-    #[error("the block has {len} bytes where at most {limit} are allowed")]
+    #[error("the block is longer than one of the full cell")]
     TooLong { edited: bool, len: u64, limit: u64 },
     #[error("out of memory")]
     Memory,
@@ -38,9 +38,9 @@ pub enum AcquireErr {
     /// The put of the cell that was to leave failed.
     #[error("the store failed in a put")]
     WriteFault,
-    #[error("the block is refused: {err}")]
+    #[error("the bytes are no block of the cell")]
     Malformed { edited: bool, err: BlockErr },
-    #[error("the block has {len} bytes where at most {limit} are allowed")]
+    #[error("the block is longer than one of the full cell")]
     TooLong { edited: bool, len: u64, limit: u64 },
     /// Every slot has a pin.
     #[error("every slot is pinned")]
@@ -56,8 +56,9 @@ pub enum CellErr {
     #[error("the position is outside the volume")]
     Outside,
     /// The value is above the greatest of the level's kind.
-    #[error("the value {value} is too large")]
+    #[error("the value is too large")]
     TooLarge { value: u64 },
-    #[error("{0}")]
+    /// The cell could not be had.
+    #[error("the cell was not acquired")]
     Acquire(AcquireErr),
 }

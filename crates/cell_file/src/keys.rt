@@ -36,7 +36,7 @@ impl Keys {
         requires one_level { IsTrue plain → length geometry.now ≡ 1 }
         ensures { IfOk result (λ keys. keys ≡ record { levels = geometry.now; root = root.now; plain = plain }) }
     {
-        let _levels = geometry.levels();
+        let _levels = geometry.levels(); // read for what its contract tells the proof
         let geometry = geometry.copy()?;
         Ok(Keys {
             geometry,

@@ -1,14 +1,13 @@
 //! A cell from and to a store: its keys, what a store stands for at it, and the fetching and saving of its block.
 #![tactic(auto)]
 
+mod asks;
 mod decide;
 mod errors;
 mod file;
 mod keys;
 mod laws;
 mod shape;
-#[cfg(test)]
-mod tests;
 
 pub use errors::{AcquireErr, CellErr, FetchErr, SaveErr};
 pub use file::{fetch, save};

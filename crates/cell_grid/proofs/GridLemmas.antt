@@ -8,7 +8,7 @@ use Rattle.std.proofs.Math.Nat.{mul-le-mul_right}
 use Rattle.voxel_box.specs.Box.{volume, number, IsWithin, AreWithin}
 use Rattle.voxel_box.proofs.BoxLemmas.{three_of, volume_le}
 use Rattle.cell_grid.specs.Grid.{Sides, IsGrid, IsVoxel, counts, sides_at, cell_count, quotients, remainders}
-use Rattle.cell_grid.specs.GridErr.{zero_side, side_too_large, cell_too_large, too_many_cells, broken_rule}
+use Rattle.cell_grid.specs.GridErr.{zero_side, side_too_large, cell_too_large, too_many_cells, broken_grid_rule}
 
 -- where the first of two is none, both are
 pub none_first : {T : Type 0} (p q : Option T) → option_or p q ≡ None → (p ≡ None) × (q ≡ None)
@@ -28,7 +28,7 @@ pub few : (count : ℕ) → too_many_cells count ≡ None → count ≤ 2 ^ 18
 few count h = grind arith
 
 -- what breaks no rule is within its limits
-pub grid_of_rules : (s : Sides) → broken_rule s.dims s.cell ≡ None → IsGrid s
+pub grid_of_rules : (s : Sides) → broken_grid_rule s.dims s.cell ≡ None → IsGrid s
 grid_of_rules s h =
     let dims = none_first (zero_side s.dims) _ h in
     let cell = none_first (zero_side s.cell) _ dims.1 in

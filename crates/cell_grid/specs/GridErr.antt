@@ -31,8 +31,8 @@ abbrev pub too_many_cells : ℕ → Option GridErr
 too_many_cells count = if nat_lt 262144 count then Some (TooManyCells count) else None
 
 -- the first rule that a box and its cells break, in this order
-abbrev pub broken_rule : List ℕ → List ℕ → Option GridErr
-broken_rule dims cell =
+abbrev pub broken_grid_rule : List ℕ → List ℕ → Option GridErr
+broken_grid_rule dims cell =
     option_or (zero_side dims) (option_or (zero_side cell) (option_or (side_too_large dims)
     (option_or (cell_too_large cell) (too_many_cells (cell_count dims cell)))))
 

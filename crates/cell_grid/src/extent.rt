@@ -4,7 +4,7 @@ ghost use Rattle.std.specs.Result.{result_err};
 ghost use Rattle.std.specs.Int.{div_ceil};
 ghost use Rattle.voxel_box.specs.Box.{volume, position_of, IsWithin, AreWithin};
 ghost use Rattle.cell_grid.specs.Grid.{Sides, cell_count, counts, IsGrid, sides_at, coordinates, IsVoxel, quotients, remainders};
-ghost use Rattle.cell_grid.specs.GridErr.{broken_rule};
+ghost use Rattle.cell_grid.specs.GridErr.{broken_grid_rule};
 
 use crate::order::{number, position_of, product};
 use crate::rules::broken_rule;
@@ -41,7 +41,7 @@ impl Extent {
     /// has at most 2^21 voxels, and there are at most 2^18 cells. No memory is taken.
     pub fn new(dims: [u64; 3], cell: [u32; 3]) -> Result<Extent, GridErr>
         ensures made { IfOk result (λ extent. extent ≡ record { dims = dims; cell = cell }) }
-        ensures refused { result_err result ≡ broken_rule dims cell }
+        ensures refused { result_err result ≡ broken_grid_rule dims cell }
     {
         match broken_rule(dims, cell) {
             Some(refusal) => Err(refusal),
@@ -123,7 +123,7 @@ impl Extent {
         ensures voxels { result ≡ volume (sides_at self.now (0 ∷ 0 ∷ 0 ∷ [])) }
         ensures limits { IsGrid self.now }
     {
-        let _counts = self.counts();
+        let _counts = self.counts(); // read for what its contract tells the proof
         product(self.sides_at([0, 0, 0]))
     }
 

@@ -4,19 +4,19 @@ use thiserror::Error;
 /// Why a box or a pyramid is refused, by the first rule that it breaks in this order.
 #[derive(Clone, Copy, Debug, PartialEq, Eq, Error)]
 pub enum GridErr {
-    #[error("a side on axis {axis} is zero")]
+    #[error("a side is zero")]
     ZeroSide { axis: u8 },
-    #[error("the side {found} on axis {axis} is above 2^31 - 1")]
+    #[error("a side is above 2^31 - 1")]
     SideTooLarge { axis: u8, found: u64 },
-    #[error("a cell of {voxels} voxels is above 2^21")]
+    #[error("a cell has more than 2^21 voxels")]
     CellTooLarge { voxels: u128 },
-    #[error("{count} cells are above 2^18")]
+    #[error("there are more than 2^18 cells")]
     TooManyCells { count: u128 },
     #[error("there is no level")]
     NoLevel,
-    #[error("{count} levels are above 8")]
+    #[error("there are more than 8 levels")]
     TooManyLevels { count: u64 },
-    #[error("the factor of level {level} on axis {axis} is zero")]
+    #[error("a factor is zero")]
     ZeroFactor { level: u8, axis: u8 },
     #[error("out of memory")]
     Memory,

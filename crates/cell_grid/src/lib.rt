@@ -15,8 +15,6 @@ mod level;
 mod order;
 mod place;
 mod rules;
-#[cfg(test)]
-mod tests;
 
 pub use extent::Extent;
 pub use geometry::{Geometry, Memory};

@@ -2,7 +2,7 @@
 ghost use Rattle.std.specs.Prelude.{◌≡◌, ◌^◌, ◌<◌, ◌≤◌, length, slice_index};
 ghost use Rattle.voxel_box.specs.Box.{volume};
 ghost use Rattle.cell_grid.specs.Grid.{cell_count};
-ghost use Rattle.cell_grid.specs.GridErr.{broken_rule, zero_side, side_too_large, zero_factor, broken_level};
+ghost use Rattle.cell_grid.specs.GridErr.{broken_grid_rule, zero_side, side_too_large, zero_factor, broken_level};
 
 use crate::{GridErr, Level};
 
@@ -20,7 +20,7 @@ const MAX_LEVELS: usize = 8;
 
 /// The first rule that a box and its cells break.
 pub fn broken_rule(dims: [u64; 3], cell: [u32; 3]) -> Option<GridErr>
-    ensures { result ≡ broken_rule dims cell }
+    ensures { result ≡ broken_grid_rule dims cell }
 {
     if let Some(refusal) = zero_side(dims) {
         return Some(refusal);

@@ -9,7 +9,7 @@ use Rattle.voxel_box.specs.Box.{volume}
 use Rattle.voxel_box.proofs.BigEndianLemmas.{length-big_endian, value_of-big_endian}
 use Rattle.n5_block.specs.declared.block_err.BlockErr.{BlockErr}
 use Rattle.n5_block.specs.Block.{block, IsGood}
-use Rattle.n5_block.specs.Rules.{number_at, sides_in, side_outside, wrong_length, broken_rule}
+use Rattle.n5_block.specs.Rules.{number_at, sides_in, side_outside, wrong_length, broken_block_rule}
 use Rattle.n5_block.proofs.Good.{Sound, grouped}
 
 -- a number at the front is read, and what follows it is the rest
@@ -40,7 +40,7 @@ fits len need e = grind (arith, nat_tests)
 none_or : {T : Type 0} (p q : Option T) → p ≡ None → q ≡ None → option_or p q ≡ None
 none_or p q e h = rw (e, h) refl
 
-pub unbroken : (width : ℕ) (need full bytes : List ℕ) → Sound width need full bytes → broken_rule width need full bytes ≡ None
+pub unbroken : (width : ℕ) (need full bytes : List ℕ) → Sound width need full bytes → broken_block_rule width need full bytes ≡ None
 unbroken width need full bytes s =
     let sides = none_or _ _ (inside 0 _ _ (number_at bytes 4 4) s.at_least.x s.at_most.x) (none_or _ _ (inside 1 _ _ (number_at bytes 8 4) s.at_least.y s.at_most.y)
     (none_or _ _ (inside 2 _ _ (number_at bytes 12 4) s.at_least.z s.at_most.z) (fits (length bytes) (16 + width * volume (sides_in bytes)) s.whole))) in

@@ -3,7 +3,7 @@ use Rattle.std.proofs.Common.{◌≡◌, ℕ, ◌≤◌, ◌==◌, nat_lt, Bool,
 use Rattle.std.specs.Option.{option_or}
 use Rattle.std.proofs.lemmas.Bool.Decides.{nat_tests}
 use Rattle.n5_block.specs.declared.block_err.BlockErr.{BlockErr}
-use Rattle.n5_block.specs.Rules.{number_at, side_outside, wrong_length, broken_rule}
+use Rattle.n5_block.specs.Rules.{number_at, side_outside, wrong_length, broken_block_rule}
 use Rattle.n5_block.proofs.Good.{Sound}
 
 -- no refusal: the test fails, and nothing behind it refuses
@@ -32,7 +32,7 @@ right_length len need e =
     let long = none_of (nat_lt need len) _ _ short.1 in
     omega (arith, at_least len need short.0, at_least need len long.0)
 
-pub sound_of_unbroken : (width : ℕ) (need full bytes : List ℕ) → broken_rule width need full bytes ≡ None → Sound width need full bytes
+pub sound_of_unbroken : (width : ℕ) (need full bytes : List ℕ) → broken_block_rule width need full bytes ≡ None → Sound width need full bytes
 sound_of_unbroken width need full bytes e =
     let short = none_of (nat_lt (length bytes) 16) _ _ e in
     let mode = none_of (not (number_at bytes 0 2 == 0)) _ _ short.1 in

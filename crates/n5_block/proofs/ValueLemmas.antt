@@ -8,7 +8,7 @@ use Rattle.voxel_box.specs.Box.{volume, number, position_of, AreWithin}
 use Rattle.voxel_box.proofs.BoxLemmas.{position_within, number-position_of, position_of-number, number_below_volume, within_larger}
 use Rattle.n5_block.specs.declared.block_err.BlockErr.{BlockErr}
 use Rattle.n5_block.specs.Block.{IsGood}
-use Rattle.n5_block.specs.Rules.{sides_in, broken_rule}
+use Rattle.n5_block.specs.Rules.{sides_in, broken_block_rule}
 use Rattle.n5_block.specs.Rows.{element_of}
 use Rattle.n5_block.specs.Values.{needed_values, values_unless, values_in}
 use Rattle.n5_block.specs.Laws.{WrittenAreGood, GoodHaveOneList}
@@ -67,7 +67,7 @@ some_of (Some err) values given e = absurd (cc)
 good_of_values : (width : ℕ) (need full bytes values : List ℕ) → IsBytes bytes → values_in width need full bytes ≡ Some values → IsGood width need full bytes values
 unfolding values_in
 good_of_values width need full bytes values h e =
-    let both = some_of (broken_rule width need full bytes) (needed_values width need bytes) values e in
+    let both = some_of (broken_block_rule width need full bytes) (needed_values width need bytes) values e in
     let sound = sound_of_unbroken width need full bytes both.0 in
     subst (IsGood width need full bytes) both.1 (good width need full bytes (needed_values width need bytes) h sound (length-map-range_with_len _ 0 (volume need))
     (λ at w. get_or-map-range_with_len (λ m. element_of width (drop 16 bytes) (number (position_of m need) (sides_in bytes))) 0 (volume need) (number at need) (number at need) 0 (number_below_volume at need w) (omega arith)
@@ -94,7 +94,7 @@ values_given width need full bytes values some within small good =
     ap (λ err. values_unless err (needed_values width need bytes)) none ∙ ap Some (sym (values_of_good width need full bytes values fits.0 fits.1 fits.2 good))
 
 -- where a rule is broken, no values are given
-pub none_given : (width : ℕ) (need full bytes : List ℕ) (err : BlockErr) → Some err ≡ broken_rule width need full bytes → values_in width need full bytes ≡ None
+pub none_given : (width : ℕ) (need full bytes : List ℕ) (err : BlockErr) → Some err ≡ broken_block_rule width need full bytes → values_in width need full bytes ≡ None
 unfolding values_in
 none_given width need full bytes err is = ap (λ rule. values_unless rule (needed_values width need bytes)) (sym is)
 

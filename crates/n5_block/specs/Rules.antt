@@ -21,8 +21,8 @@ abbrev pub wrong_length : ℕ → ℕ → Option BlockErr
 wrong_length len need = if nat_lt len need then Some (Short len need) else if nat_lt need len then Some (Trailing len need) else None
 
 -- the first rule that a block's bytes break
-abbrev pub broken_rule : ℕ → List ℕ → List ℕ → List ℕ → Option BlockErr
-broken_rule width need full bytes =
+abbrev pub broken_block_rule : ℕ → List ℕ → List ℕ → List ℕ → Option BlockErr
+broken_block_rule width need full bytes =
     if nat_lt (length bytes) 16 then Some (Short (length bytes) 16) else
     if not (number_at bytes 0 2 == 0) then Some (Mode (number_at bytes 0 2)) else
     if not (number_at bytes 2 2 == 3) then Some (Axes (number_at bytes 2 2)) else

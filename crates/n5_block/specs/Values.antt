@@ -3,7 +3,7 @@ use Rattle.std.specs.Prelude.{ℕ, List, drop, map, Option, None, Some}
 use Rattle.std.specs.List.{range_with_len}
 use Rattle.voxel_box.specs.Box.{volume, number, position_of}
 use Rattle.n5_block.specs.declared.block_err.BlockErr.{BlockErr}
-use Rattle.n5_block.specs.Rules.{sides_in, broken_rule}
+use Rattle.n5_block.specs.Rules.{sides_in, broken_block_rule}
 use Rattle.n5_block.specs.Rows.{element_of}
 
 -- the elements at the positions that are needed, in the order of the cell's own numbers
@@ -17,4 +17,4 @@ values_unless (Some err) values = None
 
 -- the values that bytes give a cell of these cropped and full sides, where they are a good block
 unfoldable pub values_in : ℕ → List ℕ → List ℕ → List ℕ → Option (List ℕ)
-values_in width need full bytes = values_unless (broken_rule width need full bytes) (needed_values width need bytes)
+values_in width need full bytes = values_unless (broken_block_rule width need full bytes) (needed_values width need bytes)

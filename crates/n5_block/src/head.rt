@@ -3,7 +3,7 @@ ghost use Rattle.std.specs.Prelude.{◌≡◌, ℕ, ◌+◌, ◌*◌, ◌^◌, �
 ghost use Rattle.std.specs.Result.{result_err};
 ghost use Rattle.voxel_box.specs.Box.{volume, AreWithin};
 ghost use Rattle.n5_block.specs.Block.{IsWidth};
-ghost use Rattle.n5_block.specs.Rules.{number_at, sides_in, side_outside, wrong_length, broken_rule};
+ghost use Rattle.n5_block.specs.Rules.{number_at, sides_in, side_outside, wrong_length, broken_block_rule};
 
 use crate::BlockErr;
 use byteorder::{BigEndian, ByteOrder};
@@ -21,7 +21,7 @@ pub(crate) fn checked_sides(
     requires width { IsWidth width }
     requires small { volume full ≤ 2 ^ 21 }
 
-    ensures refused { result_err result ≡ broken_rule width need full bytes.now }
+    ensures refused { result_err result ≡ broken_block_rule width need full bytes.now }
     ensures sides { IfOk result (λ sides. sides ≡ sides_in bytes.now) }
     ensures at_least { OnOk result (AreWithin need (sides_in bytes.now)) }
     ensures at_most { OnOk result (AreWithin (sides_in bytes.now) full) }

@@ -16,6 +16,3 @@ pub use block_err::BlockErr;
 pub use laws::{good_blocks_have_one_list_of_values, written_blocks_are_good};
 pub use read::read_block;
 pub use write::write_block;
-
-#[cfg(test)]
-mod tests;

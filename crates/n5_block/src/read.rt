@@ -3,7 +3,7 @@ ghost use Rattle.std.specs.Prelude.{◌≡◌, ℕ, ◌+◌, ◌*◌, ◌^◌, �
 ghost use Rattle.std.specs.Result.{result_err};
 ghost use Rattle.voxel_box.specs.Box.{volume, number, IsWithin, AreWithin};
 ghost use Rattle.n5_block.specs.Block.{IsWidth, IsGood};
-ghost use Rattle.n5_block.specs.Rules.{broken_rule};
+ghost use Rattle.n5_block.specs.Rules.{broken_block_rule};
 ghost use Rattle.n5_block.specs.Rows.{element_of, AreRowsTaken};
 ghost use Rattle.n5_block.specs.Values.{values_in};
 
@@ -27,7 +27,7 @@ pub fn read_block(
     requires small { volume full ≤ 2 ^ 21 }
     requires room { volume need ≤ length out.old }
 
-    ensures refused { result_err result ≡ broken_rule width need full bytes.now }
+    ensures refused { result_err result ≡ broken_block_rule width need full bytes.now }
     ensures unchanged { OnErr result (out.new ≡ out.old) }
     ensures good { OnOk result (IsGood width need full bytes.now (take (volume need) out.new)) }
     ensures only { (values : List ℕ) → IsGood width need full bytes.now values → IsOk result }

@@ -4,7 +4,7 @@ use Rattle.std.specs.Prelude.{IsTrue}
 use Rattle.std.specs.List.{list_any}
 use Rattle.std.proofs.lemmas.List.{append-nil}
 use Rattle.std.proofs.lemmas.List.Folds.{list_any-append}
-use Rattle.cell_store.specs.Store.{Contents, GetGives, Gets}
+use Rattle.cell_store.specs.Store.{Contents, GetGives, Gets, held_of}
 use Rattle.cell_store.specs.declared.store.Got.{Got}
 use Rattle.cell_store.specs.declared.store.Got.TheVariants as got
 use Rattle.store_calls.specs.Calls.{StoreCall, Getting, AreCalled, FailAlike, is_failed, wants_memory}
@@ -13,7 +13,7 @@ use Rattle.store_calls.proofs.Parts.{called_apart}
 use Rattle.n5_meta.specs.declared.open_err.OpenErr.{OpenErr}
 use Rattle.n5_meta.specs.declared.open_err.OpenErr.TheVariants as refused
 use Rattle.n5_meta.specs.Asks.{Asking, AsksAfter, AsksNothing, AsksOnce, AsksThen, OrMemory, WantsInGets}
-use Rattle.n5_meta.specs.Laws.{HoldAlike}
+use Rattle.n5_meta.specs.Laws.{HoldAsOne}
 
 -- two gets of what is held under one key, of which both were answered or none
 same_answer : (key : List ℕ) (held : Option (List ℕ)) (limit : ℕ) (x y : Got) (f g : List ℕ)
@@ -28,7 +28,7 @@ same_answer key held limit x y f g e w h i p q = (ap (λ (t : Got × List ℕ). 
         ∙ sym (is_due held 0 key limit x f h p)
 
 -- stores still hold the same after gets
-still_alike : (a b c d : Contents) (key : List ℕ) (limit : ℕ) (x y : Got) (f g : List ℕ) → HoldAlike a b → Gets a c key limit x f → Gets b d key limit y g → HoldAlike c d
+still_alike : (a b c d : Contents) (key : List ℕ) (limit : ℕ) (x y : Got) (f g : List ℕ) → HoldAsOne a b → Gets a c key limit x f → Gets b d key limit y g → HoldAsOne c d
 still_alike a b c d key limit x y f g held one other = record {
   first = subst IsTrue (sym one.told) held.first;
   second = subst IsTrue (sym other.told) held.second;
@@ -44,12 +44,12 @@ pub record AreSame {A : Type 0} (r s : Result A OpenErr) (k l m n : List StoreCa
   pub b : Contents
   pub left_is : left ≡ a ∷ []
   pub right_is : right ≡ b ∷ []
-  pub held : HoldAlike a b
+  pub held : HoldAsOne a b
 
 -- What is asked and answered is one function of what the store holds, and of which calls fail. No get before an answer found no memory.
 pub record IsDecided {A : Type 0} (asks : Asking A) : Type 0 where
   pub clean : (k : List StoreCall) (x : A) → asks k (Ok x) → list_any wants_memory k ≡ false
-  pub alike : (a b : Contents) (left right : List Contents) (k l m n : List StoreCall) (r s : Result A OpenErr) → HoldAlike a b → AreCalled k (a ∷ []) left → AreCalled l (b ∷ []) right → asks k r → asks l s
+  pub alike : (a b : Contents) (left right : List Contents) (k l m n : List StoreCall) (r s : Result A OpenErr) → HoldAsOne a b → AreCalled k (a ∷ []) left → AreCalled l (b ∷ []) right → asks k r → asks l s
       → WantsInGets k r → WantsInGets l s → FailAlike (k ++ m) (l ++ n) → AreSame r s k l m n left right
 
 not_both : {X : Type 0} (b : Bool) → IsTrue b → b ≡ false → X
@@ -98,7 +98,7 @@ module _ {A : Type 0} (key : List ℕ) (decided : Got → List ℕ → Result A 
   decides got.NoMemory found r (inr is) wants = is ∙ sym (no_memory found)
   decides answer found r (inr is) wants = let w = wants is in absurd (cc)
 
-  two_gets : (a b : Contents) (left right : List Contents) (m n : List StoreCall) (x y : Got) (f g : List ℕ) (r s : Result A OpenErr) → HoldAlike a b
+  two_gets : (a b : Contents) (left right : List Contents) (m n : List StoreCall) (x y : Got) (f g : List ℕ) (r s : Result A OpenErr) → HoldAsOne a b
       → AreCalled (get x f ∷ []) (a ∷ []) left → AreCalled (get y g ∷ []) (b ∷ []) right → OrMemory (decided x f) r → OrMemory (decided y g) s
       → WantsInGets (get x f ∷ []) r → WantsInGets (get y g ∷ []) s → FailAlike (get x f ∷ m) (get y g ∷ n) → AreSame r s (get x f ∷ []) (get y g ∷ []) m n left right
   two_gets a b left right m n x y f g r s held (mid, (before, after, at, gets, set), last) (mid', (before', after', at', gets', set'), last') asked asked' wants wants' fail =
@@ -106,7 +106,7 @@ module _ {A : Type 0} (key : List ℕ) (decided : Got → List ℕ → Result A 
       let there : before' ≡ b = cc in
       let one = subst (λ (c : Contents). Gets c after key (2 ^ 20) x f) here gets in
       let other = subst (λ (c : Contents). Gets c after' key (2 ^ 20) y g) there gets' in
-      let same = same_answer key (a.held key) (2 ^ 20) x y f g fail.0 fail.1 (one.gives held.first) (subst (λ (h : Option (List ℕ)). GetGives h (2 ^ 20) y g) (held.same key) (other.gives held.second)) one.empty other.empty in
+      let same = same_answer key ((held_of a) key) (2 ^ 20) x y f g fail.0 fail.1 (one.gives held.first) (subst (λ (h : Option (List ℕ)). GetGives h (2 ^ 20) y g) (held.same key) (other.gives held.second)) one.empty other.empty in
       record {
         answer = decides y g s asked' wants' ∙ ap (λ z. decided z g) same.0 ∙ ap (decided x) same.1 ∙ sym (decides x f r asked wants);
         calls = ap (λ z. get z g ∷ []) same.0 ∙ ap (λ z. get x z ∷ []) same.1;
@@ -118,7 +118,7 @@ module _ {A : Type 0} (key : List ℕ) (decided : Got → List ℕ → Result A 
         held = still_alike a b after after' key (2 ^ 20) x y f g held one other;
       }
 
-  once_alike : (a b : Contents) (left right : List Contents) (k l m n : List StoreCall) (r s : Result A OpenErr) → HoldAlike a b → AreCalled k (a ∷ []) left → AreCalled l (b ∷ []) right
+  once_alike : (a b : Contents) (left right : List Contents) (k l m n : List StoreCall) (r s : Result A OpenErr) → HoldAsOne a b → AreCalled k (a ∷ []) left → AreCalled l (b ∷ []) right
       → AsksOnce key decided k r → AsksOnce key decided l s → WantsInGets k r → WantsInGets l s → FailAlike (k ++ m) (l ++ n) → AreSame r s k l m n left right
   once_alike a b left right k l m n r s held one other (inl (none, inl is)) asked' wants wants' fail = absurd (none_wanted k r none wants is)
   once_alike a b left right k l m n r s held one other (inl (none, inr is)) asked' wants wants' fail = absurd (none_wanted k r none wants is)
@@ -171,7 +171,7 @@ module _ {A B : Type 0} (first : Asking A) (next : A → Asking B) (begins : IsD
       held = same.held;
     }
 
-    parts_alike : (a b : Contents) (x y : Result A OpenErr) → HoldAlike a b → AreCalled (p ++ q) (a ∷ []) left → AreCalled (p' ++ q') (b ∷ []) right → first p x → first p' y
+    parts_alike : (a b : Contents) (x y : Result A OpenErr) → HoldAsOne a b → AreCalled (p ++ q) (a ∷ []) left → AreCalled (p' ++ q') (b ∷ []) right → first p x → first p' y
         → AsksAfter x next q r → AsksAfter y next q' s → WantsInGets (p ++ q) r → WantsInGets (p' ++ q') s → FailAlike ((p ++ q) ++ m) ((p' ++ q') ++ n) → AreSame r s (p ++ q) (p' ++ q') m n left right
     parts_alike a b x y held one other asked asked' after after' wants wants' fail =
         let apart = called_apart p q (a ∷ []) left one in
@@ -181,7 +181,7 @@ module _ {A B : Type 0} (first : Asking A) (next : A → Asking B) (begins : IsD
         after_alike x apart.0 apart'.0 (record { answer = refl; calls = same.calls; rest = same.rest; a = same.a; b = same.b; left_is = same.left_is; right_is = same.right_is; held = same.held })
         asked (subst (λ (z : Result A OpenErr). first p' z) same.answer asked') apart.2 apart'.2 after (subst (λ (z : Result A OpenErr). AsksAfter z next q' s) same.answer after') wants wants'
 
-  then_alike : (a b : Contents) (left right : List Contents) (k l m n : List StoreCall) (r s : Result B OpenErr) → HoldAlike a b → AreCalled k (a ∷ []) left → AreCalled l (b ∷ []) right
+  then_alike : (a b : Contents) (left right : List Contents) (k l m n : List StoreCall) (r s : Result B OpenErr) → HoldAsOne a b → AreCalled k (a ∷ []) left → AreCalled l (b ∷ []) right
       → AsksThen first next k r → AsksThen first next l s → WantsInGets k r → WantsInGets l s → FailAlike (k ++ m) (l ++ n) → AreSame r s k l m n left right
   then_alike a b left right k l m n r s held one other (x, p, q, split, asked, after) (y, p', q', split', asked', after') wants wants' fail =
       let same = parts_alike left right p q p' q' m n r s a b x y held (subst (λ c. AreCalled c (a ∷ []) left) split one) (subst (λ c. AreCalled c (b ∷ []) right) split' other) asked asked' after after'

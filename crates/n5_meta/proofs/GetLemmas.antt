@@ -6,7 +6,7 @@ use Rattle.cell_store.specs.Store.{Contents, Entry}
 use Rattle.cell_store.proofs.FaultLemmas.{stays_then_rose}
 use Rattle.n5_meta.specs.declared.open_err.OpenErr.{OpenErr}
 use Rattle.n5_meta.specs.declared.open_err.OpenErr.TheVariants as refused
-use Rattle.n5_meta.specs.Gets.{IsAttributesKey, IsOkGet, LogsGets, LogsFault, Logs, Opens, is_fault}
+use Rattle.n5_meta.specs.Gets.{IsAttributesKey, IsOkGet, LogsGets, LogsFault, Logs, Opens, opening_is_fault}
 
 logs_nothing : (root : List ℕ) (log : List Entry) → LogsGets root log log
 logs_nothing root log = record { gets = []; grew = sym (append-nil log); all_ok = All-nil (IsOkGet root) }
@@ -33,7 +33,7 @@ logs_more root a b c (Some refused.Memory) first (inl second) = inl (logs_on roo
 logs_more root a b c (Some refused.Memory) first (inr second) = inr (fault_on root a b c first second)
 logs_more root a b c refusal first second = logs_on root a b c first second
 
-logs_refused : (root : List ℕ) (a b : List Entry) (err : OpenErr) → is_fault (Some err) ≡ false → LogsGets root a b → Logs root a b (Some err)
+logs_refused : (root : List ℕ) (a b : List Entry) (err : OpenErr) → opening_is_fault (Some err) ≡ false → LogsGets root a b → Logs root a b (Some err)
 logs_refused root a b refused.ReadFault no_fault got = grind (arith, no_fault)
 logs_refused root a b refused.Memory no_fault got = inl got
 logs_refused root a b err no_fault got = got
@@ -78,12 +78,12 @@ opens_on root a b c refusal first second = record {
 }
 
 -- a refusal that is no fault, after what was got
-pub opens_refused : (root : List ℕ) (a b : Contents) (err : OpenErr) → is_fault (Some err) ≡ false → Opens root a b None → Opens root a b (Some err)
+pub opens_refused : (root : List ℕ) (a b : Contents) (err : OpenErr) → opening_is_fault (Some err) ≡ false → Opens root a b None → Opens root a b (Some err)
 opens_refused root a b err no_fault got = record {
   told = got.told;
   told_log = got.told_log;
   unchanged = got.unchanged;
   never_falls = got.never_falls;
-  failed = λ e. grind (arith, no_fault, ap is_fault e);
+  failed = λ e. grind (arith, no_fault, ap opening_is_fault e);
   logged = λ told. logs_refused root a.log b.log err no_fault (got.logged told);
 }

@@ -4,7 +4,7 @@ use Rattle.cell_store.specs.Store.{Contents}
 use Rattle.cell_store.specs.declared.store.Got.TheVariants as got
 use Rattle.n5_meta.specs.declared.open_err.OpenErr.TheVariants as refused
 use Rattle.n5_meta.specs.Asks.{AsksLevels, AsksNothing, AsksOnce, AsksPyramid, AsksThen, attr_by, pyramid_of, setup_by}
-use Rattle.n5_meta.specs.Laws.{HoldAlike, OpeningsAreAlike}
+use Rattle.n5_meta.specs.Laws.{HoldAsOne, OpeningsAreAlike}
 use Rattle.n5_meta.specs.Pyramid.{level_key, setup_key}
 use Rattle.n5_meta.proofs.AlikeLemmas.{IsDecided, nothing_decided, once_decided, then_decided}
 
@@ -35,7 +35,7 @@ openings_alike root a b c d k l m n r s held one other asked asked' wants wants'
     let same = (pyramid_decided root).alike a b (c ∷ []) (d ∷ []) k l m n r s held one other asked asked' wants wants' fail in
     let left : same.a ≡ c = heads same.a c (sym same.left_is) in
     let right : same.b ≡ d = heads same.b d (sym same.right_is) in
-    (same.answer, same.calls, same.rest, subst (λ (x : Contents). HoldAlike x d) left (subst (λ (y : Contents). HoldAlike same.a y) right same.held))
+    (same.answer, same.calls, same.rest, subst (λ (x : Contents). HoldAsOne x d) left (subst (λ (y : Contents). HoldAsOne same.a y) right same.held))
   where
     heads : (x y : Contents) → x ∷ [] ≡ y ∷ [] → x ≡ y
     heads x y e = cc

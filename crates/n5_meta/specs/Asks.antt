@@ -17,7 +17,7 @@ use Rattle.n5_meta.specs.Attr.{attributes_in}
 use Rattle.n5_meta.specs.Factors.{factors_in}
 use Rattle.n5_meta.specs.Pyramid.{at_spot, few_levels, grid_or, level_key, levels_of, setup_key}
 use Rattle.n5_meta.specs.Rules.{◌>>=◌}
-use Rattle.n5_meta.specs.Value.{Gives}
+use Rattle.n5_meta.specs.Value.{GivesValue}
 
 -- the bytes of attributes by the answer to their get, or the refusal
 abbrev pub bytes_by : Spot → Got → List ℕ → Result (List ℕ) OpenErr
@@ -88,16 +88,16 @@ AsksPyramid root =
     AsksThen (AsksLevels root 0 factors) (λ described. AsksNothing (pyramid_of described)))
 
 -- A store was asked so, and this was answered.
-pub record IsAsked {A : Type 0} (asks : Asking A) (old new : Contents) (result : Result A OpenErr) : Type 0 where
+pub record IsAskedOfSetup {A : Type 0} (asks : Asking A) (old new : Contents) (result : Result A OpenErr) : Type 0 where
   pub calls : List StoreCall
   pub called : AreCalled calls (old ∷ []) (new ∷ [])
   pub asked : asks calls result
 
 -- The attributes under a key were got, and their bytes are there unless the answer is a refusal.
-pub record IsGot (key : List ℕ) (where' : Spot) (old new : Contents) (result : Result (Unit {0}) OpenErr) (found : List ℕ) : Type 0 where
+pub record IsAttributesGot (key : List ℕ) (where' : Spot) (old new : Contents) (result : Result (Unit {0}) OpenErr) (found : List ℕ) : Type 0 where
   pub answer : Got
   pub gets : Gets old new key (2 ^ 20) answer found
-  pub decided : Gives (λ _. found) result (bytes_by where' answer found)
+  pub decided : GivesValue (λ _. found) result (bytes_by where' answer found)
 
 -- Memory was wanting in a get, if at all.
 abbrev pub WantsInGets : {A : Type 0} → List StoreCall → Result A OpenErr → Type 0

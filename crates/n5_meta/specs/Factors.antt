@@ -7,16 +7,16 @@ use Rattle.n5_meta.specs.declared.member.Member.TheVariants.{Factors}
 use Rattle.n5_meta.specs.declared.meta_err.MetaErr.{MetaErr}
 use Rattle.n5_meta.specs.declared.meta_err.MetaErr.TheVariants.{BadNumber}
 use Rattle.n5_meta.specs.Rules.{◌>>=◌}
-use Rattle.n5_meta.specs.Value.{object_in, array_at, numbers_up_to, three}
+use Rattle.n5_meta.specs.Value.{object_in, array_member, numbers_up_to, three}
 
 -- an array of whole numbers from 0 to 2^32 - 1
-abbrev pub row_of : Data → Option (List ℕ)
-row_of json = option_and_then (numbers_up_to (2 ^ 32 - 1)) (as_array json)
+abbrev pub factor_row : Data → Option (List ℕ)
+factor_row json = option_and_then (numbers_up_to (2 ^ 32 - 1)) (as_array json)
 
 -- arrays of such numbers
 abbrev pub rows_of : Items → Option (List (List ℕ))
 rows_of no_items = Some []
-rows_of (item first items) = option_and_then (λ row. option_map (λ rows. row ∷ rows) (rows_of items)) (row_of first)
+rows_of (item first items) = option_and_then (λ row. option_map (λ rows. row ∷ rows) (rows_of items)) (factor_row first)
 
 abbrev pub rows_or : Items → Result (List (List ℕ)) MetaErr
 rows_or items = ok_or (rows_of items) (BadNumber Factors)
@@ -32,7 +32,7 @@ all_three (row ∷ rows) = do
 -- the rules for an object, in order
 unfoldable pub factors_of : Data → Result (List (List ℕ)) MetaErr
 factors_of json = do
-  items ← array_at Factors json
+  items ← array_member Factors json
   rows ← rows_or items
   all_three rows
 

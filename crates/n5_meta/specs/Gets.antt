@@ -1,7 +1,7 @@
 -- What opening a pyramid does to a store: it gets attributes, and changes nothing that is held.
 use Rattle.std.specs.Prelude.{◌≡◌, ◌⊎◌, ℕ, ◌≤◌, Bool, true, false, IsTrue, List, [], ◌∷◌, ◌++◌, All, Option, Some}
 use Rattle.cell_store.specs.Faults.{Rose}
-use Rattle.cell_store.specs.Store.{Contents, Entry}
+use Rattle.cell_store.specs.Store.{Contents, Entry, held_of}
 use Rattle.n5_meta.specs.declared.open_err.OpenErr.{OpenErr}
 use Rattle.n5_meta.specs.declared.open_err.OpenErr.TheVariants as refused
 use Rattle.n5_meta.specs.Pyramid.{setup_key, level_key}
@@ -31,9 +31,9 @@ pub record LogsFault (root : List ℕ) (old new : List Entry) : Type 0 where
   pub last : new ≡ before ++ record { put = false; key = key; ok = false } ∷ []
 
 -- whether a refusal comes of a fault of the store
-abbrev pub is_fault : Option OpenErr → Bool
-is_fault (Some refused.ReadFault) = true
-is_fault _ = false
+abbrev pub opening_is_fault : Option OpenErr → Bool
+opening_is_fault (Some refused.ReadFault) = true
+opening_is_fault _ = false
 
 -- what the log grew by, by the refusal
 abbrev pub Logs : List ℕ → List Entry → List Entry → Option OpenErr → Type 0
@@ -45,7 +45,7 @@ Logs root old new refusal = LogsGets root old new
 pub record Opens (root : List ℕ) (old new : Contents) (refusal : Option OpenErr) : Type 0 where
   pub told : new.told ≡ old.told
   pub told_log : new.told_log ≡ old.told_log
-  pub unchanged : IsTrue old.told → new.held ≡ old.held
+  pub unchanged : IsTrue old.told → (held_of new) ≡ (held_of old)
   pub never_falls : old.faults ≤ new.faults
   pub failed : refusal ≡ Some refused.ReadFault → Rose old.faults new.faults
   pub logged : IsTrue old.told_log → Logs root old.log new.log refusal

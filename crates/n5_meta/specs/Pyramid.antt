@@ -1,9 +1,9 @@
 -- The levels of a pyramid by what a store holds, or the first rule that is broken.
-use Rattle.std.specs.Prelude.{◌≡◌, ℕ, ◌+◌, ◌^◌, ◌++◌, List, [], ◌∷◌, length, ◌&&◌, Option, Some, None, Result, Ok, Err, nat_lt, nat_le, if◌then◌else◌, codes}
+use Rattle.std.specs.Prelude.{◌≡◌, ℕ, ◌+◌, ◌^◌, ◌++◌, List, [], ◌∷◌, length, Bool, ◌&&◌, Option, Some, None, Result, Ok, Err, nat_lt, nat_le, if◌then◌else◌, codes}
 use Rattle.std.specs.Fmt.{decimal}
 use Rattle.cell_grid.specs.declared.level.Level.{Level}
 use Rattle.cell_grid.specs.Grid.{Sides}
-use Rattle.cell_grid.specs.GridErr.{broken_rule, broken_level}
+use Rattle.cell_grid.specs.GridErr.{broken_grid_rule, broken_level}
 use Rattle.cell_grid.specs.declared.grid_err.GridErr.{GridErr}
 use Rattle.n5_meta.specs.declared.attr.Attr.{Attr}
 use Rattle.n5_meta.specs.declared.described.Described.{Described}
@@ -40,8 +40,11 @@ refusal_at where' broken.Memory = refused.Memory
 refusal_at where' err = refused.Meta where' err
 
 -- there are 1 to 8 levels
+abbrev pub are_few : ℕ → Bool
+are_few levels = nat_lt 0 levels && nat_le levels 8
+
 abbrev pub few_levels : List (List ℕ) → Result (List (List ℕ)) OpenErr
-few_levels factors = if nat_lt 0 (length factors) && nat_le (length factors) 8 then Ok factors else Err (refused.LevelCount (length factors))
+few_levels factors = if are_few (length factors) then Ok factors else Err (refused.LevelCount (length factors))
 
 unfoldable pub setup_in : Option (List ℕ) → Result (List (List ℕ)) OpenErr
 setup_in held = do
@@ -68,7 +71,7 @@ grid_or None x = Ok x
 grid_or (Some err) x = Err (refused.Grid err)
 
 abbrev pub extent_of : Attr → Result Sides OpenErr
-extent_of attr = grid_or (broken_rule attr.dims attr.cell) (record { dims = attr.dims; cell = attr.cell })
+extent_of attr = grid_or (broken_grid_rule attr.dims attr.cell) (record { dims = attr.dims; cell = attr.cell })
 
 -- the levels as they are described
 abbrev pub levels_of : List Described → Result (List Level) OpenErr
@@ -87,8 +90,8 @@ pyramid_in held root = do
   grid_or (broken_level levels) levels
 
 -- a function answers what is meant, unless the store fails or memory runs out
-abbrev pub Answers : {X Y : Type 0} → (X → Y) → Result X OpenErr → Result Y OpenErr → Type 0
-Answers view (Ok x) meant = meant ≡ Ok (view x)
-Answers view (Err refused.ReadFault) meant = Unit {0}
-Answers view (Err refused.Memory) meant = Unit {0}
-Answers view (Err err) meant = meant ≡ Err err
+abbrev pub AnswersOpened : {X Y : Type 0} → (X → Y) → Result X OpenErr → Result Y OpenErr → Type 0
+AnswersOpened view (Ok x) meant = meant ≡ Ok (view x)
+AnswersOpened view (Err refused.ReadFault) meant = Unit {0}
+AnswersOpened view (Err refused.Memory) meant = Unit {0}
+AnswersOpened view (Err err) meant = meant ≡ Err err

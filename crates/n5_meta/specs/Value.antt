@@ -8,7 +8,7 @@ use Rattle.serde_json.specs.Read.{read as read_text}
 use Rattle.n5_meta.specs.declared.member.Member.{Member}
 use Rattle.n5_meta.specs.declared.meta_err.MetaErr.{MetaErr}
 use Rattle.n5_meta.specs.declared.meta_err.MetaErr.TheVariants.{NotJson, Missing, BadNumber, Axes, Memory}
-use Rattle.n5_meta.specs.Member.{name_of}
+use Rattle.n5_meta.specs.Member.{member_name}
 
 abbrev pub if_object : Data → Option Data
 if_object json = if is_some (as_object json) then Some json else None
@@ -21,14 +21,14 @@ unfoldable pub object_in : List ℕ → Result Data MetaErr
 object_in bytes = ok_or (option_and_then if_object (json_in bytes)) NotJson
 
 -- the member is there and is of the right type
-abbrev pub array_at : Member → Data → Result Items MetaErr
-array_at member json = ok_or (option_and_then as_array (get (name_of member) json)) (Missing member)
+abbrev pub array_member : Member → Data → Result Items MetaErr
+array_member member json = ok_or (option_and_then as_array (get (member_name member) json)) (Missing member)
 
 abbrev pub string_at : Member → Data → Result (List ℕ) MetaErr
-string_at member json = ok_or (option_and_then as_str (get (name_of member) json)) (Missing member)
+string_at member json = ok_or (option_and_then as_str (get (member_name member) json)) (Missing member)
 
 abbrev pub object_at : Member → Data → Result Data MetaErr
-object_at member json = ok_or (option_and_then if_object (get (name_of member) json)) (Missing member)
+object_at member json = ok_or (option_and_then if_object (get (member_name member) json)) (Missing member)
 
 -- a whole number from 0 to a bound
 abbrev pub number_up_to : ℕ → Data → Option ℕ
@@ -47,12 +47,12 @@ abbrev pub three : List ℕ → Result (List ℕ) MetaErr
 three numbers = if length numbers == 3 then Ok numbers else Err (Axes (length numbers))
 
 -- a function gives what is meant
-abbrev pub Gives : {X Y E : Type 0} → (X → Y) → Result X E → Result Y E → Type 0
-Gives view (Ok x) meant = meant ≡ Ok (view x)
-Gives view (Err err) meant = meant ≡ Err err
+abbrev pub GivesValue : {X Y E : Type 0} → (X → Y) → Result X E → Result Y E → Type 0
+GivesValue view (Ok x) meant = meant ≡ Ok (view x)
+GivesValue view (Err err) meant = meant ≡ Err err
 
 -- a function answers what is meant, unless memory runs out
-abbrev pub Answers : {X Y : Type 0} → (X → Y) → Result X MetaErr → Result Y MetaErr → Type 0
-Answers view (Ok x) meant = meant ≡ Ok (view x)
-Answers view (Err Memory) meant = Unit {0}
-Answers view (Err err) meant = meant ≡ Err err
+abbrev pub AnswersRead : {X Y : Type 0} → (X → Y) → Result X MetaErr → Result Y MetaErr → Type 0
+AnswersRead view (Ok x) meant = meant ≡ Ok (view x)
+AnswersRead view (Err Memory) meant = Unit {0}
+AnswersRead view (Err err) meant = meant ≡ Err err

@@ -1,8 +1,8 @@
 // The attributes of a dataset. An error is the first rule that they break.
 ghost use Rattle.std.specs.Prelude.{◌≡◌};
-ghost use Rattle.serde_json.specs.View.{view};
-ghost use Rattle.n5_meta.specs.Attr.{attributes_in, attributes_of, kind_or, is_raw};
-ghost use Rattle.n5_meta.specs.Value.{Answers};
+ghost use Rattle.serde_json.specs.View.{items_view, view};
+ghost use Rattle.n5_meta.specs.Attr.{attr_of, attributes_in, attributes_of, kind_or, is_raw};
+ghost use Rattle.n5_meta.specs.Value.{AnswersRead};
 
 use crate::value::{
     array_of, numbers_of, object_in, object_of, small_three_of, string_of, three_of,
@@ -21,7 +21,7 @@ use std::alloc::Global;
 /// is `raw`. A spelling with a point or an exponent is no whole number.
 #[tactic(auto, unfolding(crate::specs::Attr::attributes_in))]
 pub fn read_attributes(alloc: Global, bytes: &[u8]) -> Result<Attr, MetaErr>
-    ensures { Answers (λ attr. attr) result (attributes_in bytes.now) }
+    ensures { AnswersRead (λ attr. attr) result (attributes_in bytes.now) }
 {
     let value = object_in(alloc, bytes)?;
     attributes_of(alloc, &value)
@@ -29,12 +29,26 @@ pub fn read_attributes(alloc: Global, bytes: &[u8]) -> Result<Attr, MetaErr>
 
 #[tactic(auto, unfolding(crate::specs::Attr::attributes_of))]
 fn attributes_of(alloc: Global, value: &Value) -> Result<Attr, MetaErr>
-    ensures { Answers (λ attr. attr) result (attributes_of (view value.now)) }
+    ensures { AnswersRead (λ attr. attr) result (attributes_of (view value.now)) }
 {
     let dims = array_of(value, Member::Dimensions)?;
     let cell = array_of(value, Member::BlockSize)?;
     let kind = string_of(value, Member::DataType)?;
     let compression = object_of(value, Member::Compression)?;
+    attr_of(alloc, dims, cell, kind, compression)
+}
+
+/// What the members say.
+#[tactic(auto, unfolding(crate::specs::Attr::attr_of))]
+fn attr_of(
+    alloc: Global,
+    dims: &[Value],
+    cell: &[Value],
+    kind: &str,
+    compression: &Value,
+) -> Result<Attr, MetaErr>
+    ensures { AnswersRead (λ attr. attr) result (attr_of (items_view dims.now) (items_view cell.now) kind.now (view compression.now)) }
+{
     let dims = numbers_of(alloc, dims, u64::MAX, Member::Dimensions)?;
     let cell = numbers_of(alloc, cell, u32::MAX as u64, Member::BlockSize)?;
     let dims = three_of(dims.as_slice())?;

@@ -2,7 +2,7 @@
 ghost use Rattle.std.specs.Prelude.{◌≡◌, ◌≤◌, ◌-◌, ◌^◌, All, IfOk};
 ghost use Rattle.serde_json.specs.View.{view, items_view};
 ghost use Rattle.n5_meta.specs.Factors.{all_three, factors_in, factors_of, rows_or};
-ghost use Rattle.n5_meta.specs.Value.{Answers};
+ghost use Rattle.n5_meta.specs.Value.{AnswersRead};
 
 use crate::value::{array_of, numbers_of, object_in, small_three_of};
 use crate::{Member, MetaErr};
@@ -14,7 +14,7 @@ use std::alloc::Global;
 /// This is the form that BigDataViewer writes.
 #[tactic(auto, unfolding(crate::specs::Factors::factors_in))]
 pub(crate) fn read_factors(alloc: Global, bytes: &[u8]) -> Result<Items<[u32; 3]>, MetaErr>
-    ensures { Answers (λ factors. factors) result (factors_in bytes.now) }
+    ensures { AnswersRead (λ factors. factors) result (factors_in bytes.now) }
 {
     let value = object_in(alloc, bytes)?;
     factors_of(alloc, &value)
@@ -22,7 +22,7 @@ pub(crate) fn read_factors(alloc: Global, bytes: &[u8]) -> Result<Items<[u32; 3]
 
 #[tactic(auto, unfolding(crate::specs::Factors::factors_of))]
 fn factors_of(alloc: Global, value: &Value) -> Result<Items<[u32; 3]>, MetaErr>
-    ensures { Answers (λ factors. factors) result (factors_of (view value.now)) }
+    ensures { AnswersRead (λ factors. factors) result (factors_of (view value.now)) }
 {
     let items = array_of(value, Member::Factors)?;
     let rows = rows_of(alloc, items)?;
@@ -31,7 +31,7 @@ fn factors_of(alloc: Global, value: &Value) -> Result<Items<[u32; 3]>, MetaErr>
 
 /// The rows of whole numbers that items are.
 fn rows_of(alloc: Global, items: &[Value]) -> Result<Items<Items<u64>>, MetaErr>
-    ensures rows { Answers (λ rows. rows) result (rows_or (items_view items.now)) }
+    ensures rows { AnswersRead (λ rows. rows) result (rows_or (items_view items.now)) }
     ensures within { IfOk result (λ rows. All (All (λ n. n ≤ 2 ^ 32 - 1)) rows) }
 {
     let mut rows = Items::new(alloc);
@@ -52,7 +52,7 @@ fn rows_of(alloc: Global, items: &[Value]) -> Result<Items<Items<u64>>, MetaErr>
 /// One number for each axis in each row.
 fn all_three_of(alloc: Global, rows: &[Items<u64>]) -> Result<Items<[u32; 3]>, MetaErr>
     requires { All (All (λ n. n ≤ 2 ^ 32 - 1)) rows.now }
-    ensures { Answers (λ factors. factors) result (all_three rows.now) }
+    ensures { AnswersRead (λ factors. factors) result (all_three rows.now) }
 {
     let mut factors = Items::new(alloc);
     for row in rows {

@@ -13,8 +13,6 @@ mod meta_err;
 mod open_err;
 mod pyramid;
 mod spot;
-#[cfg(test)]
-mod tests;
 mod value;
 
 pub use attr::Attr;

@@ -1,6 +1,6 @@
 // The members of attributes.
 ghost use Rattle.std.specs.Prelude.{◌≡◌, Some};
-ghost use Rattle.n5_meta.specs.Member.{name_of};
+ghost use Rattle.n5_meta.specs.Member.{member_name};
 
 use std::fmt;
 
@@ -17,7 +17,7 @@ pub enum Member {
 impl Member {
     /// Its name in a JSON text.
     pub fn name(self) -> &'static str
-        ensures { result.now ≡ name_of self }
+        ensures { result.now ≡ member_name self }
     {
         match self {
             Member::Dimensions => "dimensions",
@@ -30,7 +30,7 @@ impl Member {
 }
 
 impl fmt::Display for Member {
-    ghost output = { λ member. Some (name_of member) };
+    ghost output = { λ member. Some (member_name member) };
 
     fn fmt<W: fmt::Write>(&self, f: &mut fmt::Formatter<W>) -> fmt::Result {
         f.write_str(self.name())

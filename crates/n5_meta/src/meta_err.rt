@@ -10,9 +10,9 @@ pub enum MetaErr {
     NotJson,
     #[error("the member {member} is missing or has another type")]
     Missing { member: Member },
-    #[error("an item of {member} is no whole number within its limits")]
+    #[error("an item is no whole number within its limits")]
     BadNumber { member: Member },
-    #[error("{count} axes in place of 3")]
+    #[error("the axes are not 3")]
     Axes { count: u64 },
     #[error("a data type that isn't read")]
     Kind,

@@ -8,13 +8,13 @@ use thiserror::Error;
 pub enum OpenErr {
     #[error("the attributes of {spot}: {err}")]
     Meta { spot: Spot, err: MetaErr },
-    #[error("there are no attributes of {spot}")]
+    #[error("there are no attributes")]
     NoAttributes { spot: Spot },
-    #[error("the attributes of {spot} have {len} bytes, more than 2^20")]
+    #[error("the attributes have more than 2^20 bytes")]
     TooLong { spot: Spot, len: u64 },
-    #[error("{count} levels in place of 1 to 8")]
+    #[error("the levels are not 1 to 8")]
     LevelCount { count: u64 },
-    #[error("the grid: {err}")]
+    #[error("the levels make no pyramid")]
     Grid { err: GridErr },
     #[error("the store failed")]
     ReadFault,

@@ -1,9 +1,10 @@
 // A pyramid by the attributes that a store holds. An error is the first refusal in the order of work.
 ghost use Rattle.std.specs.Prelude.{◌≡◌, ◌≤◌, ◌+◌, ◌^◌, ◌++◌, IsTrue, IfOk, OnOk, length, string_bytes};
 ghost use Rattle.std.specs.Result.{result_err};
-ghost use Rattle.n5_meta.specs.Asks.{AsksLevels, AsksOnce, AsksPyramid, IsAsked, IsGot, attr_by, setup_by};
+ghost use Rattle.n5_meta.specs.Asks.{AsksLevels, AsksOnce, AsksPyramid, IsAskedOfSetup, IsAttributesGot, attr_by, setup_by};
 ghost use Rattle.n5_meta.specs.Gets.{IsAttributesKey, Opens};
-ghost use Rattle.n5_meta.specs.Pyramid.{Answers, attr_in, bytes_or, described_from, few_levels, level_key, pyramid_in, refusal_at, setup_in, setup_key};
+ghost use Rattle.n5_meta.specs.Pyramid.{AnswersOpened, are_few, attr_in, bytes_or, described_from, level_key, pyramid_in, refusal_at, setup_in, setup_key};
+ghost use Rattle.cell_store.specs.Store.{held_of};
 
 use crate::described::Described;
 use crate::factors::read_factors;
@@ -29,8 +30,8 @@ const MOST_LEVELS: usize = 8;
 #[tactic(auto, unfolding(crate::specs::Pyramid::pyramid_in), using(crate::proofs::PyramidLemmas::described_before, crate::proofs::GetLemmas::opens_on, crate::proofs::GetLemmas::opens_refused))]
 pub fn open_pyramid<S: Store>(alloc: Global, store: &mut S, root: &str) -> Result<Geometry, OpenErr>
     ensures opens { Opens root.now (S.contents store.old) (S.contents store.new) (result_err result) }
-    ensures answer { IsTrue (S.contents store.old).told → Answers (λ geometry. geometry) result (pyramid_in (S.contents store.old).held root.now) }
-    ensures asks { IsAsked (AsksPyramid root.now) (S.contents store.old) (S.contents store.new) result }
+    ensures answer { IsTrue (S.contents store.old).told → AnswersOpened (λ geometry. geometry) result (pyramid_in (held_of (S.contents store.old)) root.now) }
+    ensures asks { IsAskedOfSetup (AsksPyramid root.now) (S.contents store.old) (S.contents store.new) result }
 {
     let mut bytes = Vec::new(alloc);
     let factors = read_setup(alloc, store, root, &mut bytes)?;
@@ -51,8 +52,8 @@ fn read_setup<S: Store>(
     bytes: &mut Vec<u8>,
 ) -> Result<Items<[u32; 3]>, OpenErr>
     ensures opens { Opens root.now (S.contents store.old) (S.contents store.new) (result_err result) }
-    ensures answer { IsTrue (S.contents store.old).told → Answers (λ factors. factors) result (setup_in ((S.contents store.old).held (setup_key root.now))) }
-    ensures asks { IsAsked (AsksOnce (setup_key root.now) setup_by) (S.contents store.old) (S.contents store.new) result }
+    ensures answer { IsTrue (S.contents store.old).told → AnswersOpened (λ factors. factors) result (setup_in ((held_of (S.contents store.old)) (setup_key root.now))) }
+    ensures asks { IsAskedOfSetup (AsksOnce (setup_key root.now) setup_by) (S.contents store.old) (S.contents store.new) result }
     ensures few { IfOk result (λ factors. length factors ≤ 8) }
 {
     let Ok(key) = setup_key(alloc, root) else {
@@ -63,12 +64,20 @@ fn read_setup<S: Store>(
         Ok(factors) => factors,
         Err(err) => return Err(refusal_at(Spot::Setup, err)),
     };
-    if factors.is_empty() || factors.len() > MOST_LEVELS {
+    let count = factors.len();
+    if !are_few(count) {
         return Err(OpenErr::LevelCount {
-            count: factors.len() as u64,
+            count: count as u64,
         });
     }
     Ok(factors)
+}
+
+/// Whether a pyramid may have so many levels.
+fn are_few(levels: usize) -> bool
+    ensures { result ≡ are_few levels }
+{
+    0 < levels && levels <= MOST_LEVELS
 }
 
 /// Gets and reads the attributes of the levels in order.
@@ -82,8 +91,8 @@ fn read_levels<S: Store>(
 ) -> Result<Items<Described>, OpenErr>
     requires { length factors.now ≤ 8 }
     ensures opens { Opens root.now (S.contents store.old) (S.contents store.new) (result_err result) }
-    ensures answer { IsTrue (S.contents store.old).told → Answers (λ described. described) result (described_from (S.contents store.old).held root.now 0 factors.now) }
-    ensures asks { IsAsked (AsksLevels root.now 0 factors.now) (S.contents store.old) (S.contents store.new) result }
+    ensures answer { IsTrue (S.contents store.old).told → AnswersOpened (λ described. described) result (described_from (held_of (S.contents store.old)) root.now 0 factors.now) }
+    ensures asks { IsAskedOfSetup (AsksLevels root.now 0 factors.now) (S.contents store.old) (S.contents store.new) result }
 {
     let mut described = Items::new(alloc);
     let mut level = 0u8;
@@ -108,8 +117,8 @@ fn read_level<S: Store>(
     bytes: &mut Vec<u8>,
 ) -> Result<Attr, OpenErr>
     ensures opens { Opens root.now (S.contents store.old) (S.contents store.new) (result_err result) }
-    ensures answer { IsTrue (S.contents store.old).told → Answers (λ attr. attr) result (attr_in level ((S.contents store.old).held (level_key root.now level))) }
-    ensures asks { IsAsked (AsksOnce (level_key root.now level) (attr_by level)) (S.contents store.old) (S.contents store.new) result }
+    ensures answer { IsTrue (S.contents store.old).told → AnswersOpened (λ attr. attr) result (attr_in level ((held_of (S.contents store.old)) (level_key root.now level))) }
+    ensures asks { IsAskedOfSetup (AsksOnce (level_key root.now level) (attr_by level)) (S.contents store.old) (S.contents store.new) result }
 {
     let Ok(key) = level_key(alloc, root, level) else {
         return Err(OpenErr::Memory);
@@ -132,8 +141,8 @@ fn get_attributes<S: Store>(
 ) -> Result<(), OpenErr>
     requires { IsAttributesKey root.now key.now }
     ensures opens { Opens root.now (S.contents store.old) (S.contents store.new) (result_err result) }
-    ensures answer { IsTrue (S.contents store.old).told → Answers (λ _. bytes.new.items) result (bytes_or spot ((S.contents store.old).held key.now)) }
-    ensures asks { IsGot key.now spot (S.contents store.old) (S.contents store.new) result bytes.new.items }
+    ensures answer { IsTrue (S.contents store.old).told → AnswersOpened (λ _. bytes.new.items) result (bytes_or spot ((held_of (S.contents store.old)) key.now)) }
+    ensures asks { IsAttributesGot key.now spot (S.contents store.old) (S.contents store.new) result bytes.new.items }
 {
     match store.get(key, LONGEST_ATTRIBUTES, bytes) {
         Got::Found => Ok(()),

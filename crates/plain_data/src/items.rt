@@ -98,29 +98,3 @@ impl<T> Items<T> {
         self.items.pop()
     }
 }
-
-#[cfg(test)]
-mod tests {
-    use super::*;
-    use std::test::Fail;
-
-    #[test]
-    fn items_are_a_list(rt: HostRuntime) -> Result<(), Fail> {
-        let alloc = rt.alloc();
-        let mut items = Items::new(alloc);
-        assert!(rt; items.is_empty());
-        for item in [5u32, 6, 7] {
-            items.push(item)?;
-        }
-        assert_eq!(rt; items.len(), 3);
-        if let Some(last) = items.last_mut() {
-            *last = 8;
-        }
-        assert_eq!(rt; items.last(), Some(&8));
-        assert_eq!(rt; items.pop(), Some(8));
-        assert_eq!(rt; items.as_slice(), [5, 6].as_slice());
-        let back = Items::from_vec(items.into_vec());
-        assert_eq!(rt; back.as_slice(), [5, 6].as_slice());
-        Ok(())
-    }
-}

@@ -41,24 +41,3 @@ fn is_name_byte(byte: u8) -> bool
 {
     byte.is_ascii_alphanumeric() || matches!(byte, b'_' | b'-' | b'.')
 }
-
-#[cfg(test)]
-mod tests {
-    use super::*;
-
-    #[test]
-    fn root_names_are_told_from_others(rt: HostRuntime) {
-        let longest = [b'a'; 200];
-        let longer = [b'a'; 201];
-        let names = ["vol", "a", "A.z/0_9/-x", "..."];
-        for name in names {
-            assert!(rt; is_root_name(name.as_bytes()), "{name}");
-        }
-        assert!(rt; is_root_name(&longest));
-        let others = ["", "/", "/a", "a/", "a//b", ".", "a/..", "a b", "caf\u{e9}"];
-        for other in others {
-            assert!(rt; !is_root_name(other.as_bytes()), "{other}");
-        }
-        assert!(rt; !is_root_name(&longer));
-    }
-}

@@ -46,18 +46,3 @@ impl Text {
         self.text.as_str()
     }
 }
-
-#[cfg(test)]
-mod tests {
-    use super::*;
-    use std::test::Fail;
-
-    #[test]
-    fn texts_come_and_go(rt: HostRuntime) -> Result<(), Fail> {
-        let text = Text::from_str(rt.alloc(), "vol")?;
-        assert_eq!(rt; text.as_str(), "vol");
-        let text = Text::from_string(text.into_string());
-        assert_eq!(rt; text.as_str(), "vol");
-        Ok(())
-    }
-}

@@ -19,18 +19,18 @@ status_of_stop stop.Memory = 7
 status_of_stop stop.ReadFault = 8
 status_of_stop (stop.Slots found low high) = 9
 
-abbrev pub kind_text : ScriptKind → List ℕ
-kind_text NotText = codes "not-text"
-kind_text UnknownWord = codes "unknown-word"
-kind_text BadNumber = codes "bad-number"
-kind_text MissingWord = codes "missing-word"
-kind_text ExtraWord = codes "extra-word"
-kind_text Limit = codes "limit"
-kind_text Order = codes "order"
+abbrev pub script_kind_text : ScriptKind → List ℕ
+script_kind_text NotText = codes "not-text"
+script_kind_text UnknownWord = codes "unknown-word"
+script_kind_text BadNumber = codes "bad-number"
+script_kind_text MissingWord = codes "missing-word"
+script_kind_text ExtraWord = codes "extra-word"
+script_kind_text Limit = codes "limit"
+script_kind_text Order = codes "order"
 
 abbrev pub stop_text : Stop → List ℕ
 stop_text stop.Usage = codes "usage: viewrun info ROOT | solo SCRIPT --slots N | run SCRIPT --slots N --fetchers N | demo N"
-stop_text (stop.Script line kind) = codes "script line" ␣ decimal line ␣ kind_text kind
+stop_text (stop.Script line kind) = codes "script line" ␣ decimal line ␣ script_kind_text kind
 stop_text (stop.Dataset err) = open_text err
 stop_text stop.WriteFault = codes "store" ␣ codes "write-fault"
 stop_text stop.Memory = codes "memory"

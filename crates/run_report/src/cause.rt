@@ -2,6 +2,7 @@
 ghost use Rattle.std.specs.Prelude.{◌≡◌, Some};
 ghost use Rattle.run_report.specs.Cause.{block_text, cause_text, key_text};
 
+use crate::said::{One, Two};
 use cell_file::AcquireErr;
 use n5_block::BlockErr;
 use std::fmt;
@@ -15,11 +16,11 @@ impl fmt::Display for BlockCause {
 
     fn fmt<W: fmt::Write>(&self, f: &mut fmt::Formatter<W>) -> fmt::Result {
         match self.0 {
-            BlockErr::Short { len, need } => write!(f, "short {len} {need}"),
-            BlockErr::Mode { found } => write!(f, "mode {found}"),
-            BlockErr::Axes { found } => write!(f, "axes {found}"),
-            BlockErr::Side { axis, found } => write!(f, "side {axis} {found}"),
-            BlockErr::Trailing { len, need } => write!(f, "trailing {len} {need}"),
+            BlockErr::Short { len, need } => Two("short", len as u128, need as u128).fmt(f),
+            BlockErr::Mode { found } => One("mode", found as u128).fmt(f),
+            BlockErr::Axes { found } => One("axes", found as u128).fmt(f),
+            BlockErr::Side { axis, found } => Two("side", axis as u128, found as u128).fmt(f),
+            BlockErr::Trailing { len, need } => Two("trailing", len as u128, need as u128).fmt(f),
         }
     }
 }
@@ -41,8 +42,8 @@ impl fmt::Display for Cause {
                 write!(f, "malformed {key} {cause}")
             }
             AcquireErr::TooLong { edited, len, limit } => {
-                let key = key_name(edited);
-                write!(f, "too-long {key} {len} {limit}")
+                let lengths = Two(key_name(edited), len as u128, limit as u128);
+                write!(f, "too-long {lengths}")
             }
             AcquireErr::Full => write!(f, "full"),
             AcquireErr::Memory => write!(f, "memory"),

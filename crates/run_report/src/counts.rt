@@ -2,6 +2,7 @@
 ghost use Rattle.std.specs.Prelude.{◌≡◌, Some};
 ghost use Rattle.run_report.specs.Counts.{put_text, tally_text, unsaved_text};
 
+use crate::said::{One, Three};
 use arr_history::{Tally, Unsaved};
 use std::fmt;
 
@@ -13,19 +14,18 @@ impl fmt::Display for Counts {
     ghost output = { λ counts. Some (tally_text counts.0) };
 
     fn fmt<W: fmt::Write>(&self, f: &mut fmt::Formatter<W>) -> fmt::Result {
-        let Tally {
-            hits,
-            misses,
-            loads,
-            evictions,
-            writebacks,
-            closed,
-        } = self.0;
-        write!(f, "tally hits {hits} misses {misses} loads {loads}")?;
-        write!(
-            f,
-            " evictions {evictions} writebacks {writebacks} closed {closed}"
-        )
+        let tally = self.0;
+        let had = Three(
+            One("tally hits", tally.hits as u128),
+            One("misses", tally.misses as u128),
+            One("loads", tally.loads as u128),
+        );
+        let left = Three(
+            One("evictions", tally.evictions as u128),
+            One("writebacks", tally.writebacks as u128),
+            One("closed", tally.closed as u128),
+        );
+        write!(f, "{had} {left}")
     }
 }
 

@@ -1,7 +1,8 @@
 // Why a dataset is refused, as it is written.
 ghost use Rattle.std.specs.Prelude.{◌≡◌, Some};
-ghost use Rattle.run_report.specs.Dataset.{grid_text, meta_text, open_text, refused_text, spot_text, status_of_open, wants_memory};
+ghost use Rattle.run_report.specs.Dataset.{grid_cause_text, meta_text, open_text, refused_text, spot_text, status_of_open, opening_wants_memory};
 
+use crate::said::{One, Two};
 use cell_grid::GridErr;
 use n5_meta::{MetaErr, OpenErr, Spot};
 use std::fmt;
@@ -16,7 +17,7 @@ impl fmt::Display for Attributes {
     fn fmt<W: fmt::Write>(&self, f: &mut fmt::Formatter<W>) -> fmt::Result {
         match self.0 {
             Spot::Setup => write!(f, "setup"),
-            Spot::Level(level) => write!(f, "level {level}"),
+            Spot::Level(level) => One("level", level as u128).fmt(f),
         }
     }
 }
@@ -33,7 +34,7 @@ impl fmt::Display for AttributeCause {
             MetaErr::NotJson => write!(f, "not-json"),
             MetaErr::Missing { member } => write!(f, "missing {member}"),
             MetaErr::BadNumber { member } => write!(f, "bad-number {member}"),
-            MetaErr::Axes { count } => write!(f, "axes {count}"),
+            MetaErr::Axes { count } => One("axes", count as u128).fmt(f),
             MetaErr::Kind => write!(f, "kind"),
             MetaErr::Compressed => write!(f, "compressed"),
             MetaErr::Memory => write!(f, "memory"),
@@ -46,17 +47,25 @@ impl fmt::Display for AttributeCause {
 pub struct GridCause(pub GridErr);
 
 impl fmt::Display for GridCause {
-    ghost output = { λ cause. Some (grid_text cause.0) };
+    ghost output = { λ cause. Some (grid_cause_text cause.0) };
 
     fn fmt<W: fmt::Write>(&self, f: &mut fmt::Formatter<W>) -> fmt::Result {
         match self.0 {
-            GridErr::ZeroSide { axis } => write!(f, "zero-side {axis}"),
-            GridErr::SideTooLarge { axis, found } => write!(f, "side-too-large {axis} {found}"),
-            GridErr::CellTooLarge { voxels } => write!(f, "cell-too-large {voxels}"),
-            GridErr::TooManyCells { count } => write!(f, "too-many-cells {count}"),
+            GridErr::ZeroSide { axis } => One("zero-side", axis as u128).fmt(f),
+            GridErr::SideTooLarge { axis, found } => Two(
+                "side-too-large",
+                axis as u128,
+                found as u128,
+            ).fmt(f),
+            GridErr::CellTooLarge { voxels } => One("cell-too-large", voxels).fmt(f),
+            GridErr::TooManyCells { count } => One("too-many-cells", count).fmt(f),
             GridErr::NoLevel => write!(f, "no-level"),
-            GridErr::TooManyLevels { count } => write!(f, "too-many-levels {count}"),
-            GridErr::ZeroFactor { level, axis } => write!(f, "zero-factor {level} {axis}"),
+            GridErr::TooManyLevels { count } => One("too-many-levels", count as u128).fmt(f),
+            GridErr::ZeroFactor { level, axis } => Two(
+                "zero-factor",
+                level as u128,
+                axis as u128,
+            ).fmt(f),
             GridErr::Memory => write!(f, "memory"),
         }
     }
@@ -82,9 +91,10 @@ impl fmt::Display for Refused {
             }
             OpenErr::TooLong { spot, len } => {
                 let place = Attributes(spot);
-                write!(f, "dataset {place} too-long {len}")
+                let long = One("too-long", len as u128);
+                write!(f, "dataset {place} {long}")
             }
-            OpenErr::LevelCount { count } => write!(f, "dataset setup level-count {count}"),
+            OpenErr::LevelCount { count } => One("dataset setup level-count", count as u128).fmt(f),
             OpenErr::Grid { err } => {
                 let cause = GridCause(err);
                 write!(f, "dataset grid {cause}")
@@ -102,7 +112,7 @@ pub struct Unopened(pub OpenErr);
 impl Unopened {
     /// Whether memory was wanting.
     fn wants_memory(self) -> bool
-        ensures { result ≡ wants_memory self.0 }
+        ensures { result ≡ opening_wants_memory self.0 }
     {
         match self.0 {
             OpenErr::Memory => true,
@@ -133,8 +143,7 @@ impl fmt::Display for Unopened {
         if self.wants_memory() {
             write!(f, "memory")
         } else {
-            let refused = Refused(self.0);
-            write!(f, "{refused}")
+            Refused(self.0).fmt(f)
         }
     }
 }

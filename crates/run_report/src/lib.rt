@@ -8,6 +8,7 @@ mod info;
 mod print;
 mod reply;
 mod report;
+mod said;
 mod shot;
 mod stop;
 
@@ -17,6 +18,3 @@ pub use reply::{Answer, Refusal, Reply};
 pub use report::{Report, Unwritten};
 pub use shot::Shot;
 pub use stop::Stop;
-
-#[cfg(test)]
-mod tests;

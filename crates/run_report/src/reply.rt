@@ -3,6 +3,7 @@ ghost use Rattle.std.specs.Prelude.{◌≡◌, Some};
 ghost use Rattle.run_report.specs.Reply.{answer_text, frame_text, refusal_text, refuses, reply_text};
 
 use crate::cause::Cause;
+use crate::said::{One, Three};
 use cell_file::AcquireErr;
 use scale_pick::Painted;
 use std::fmt;
@@ -44,7 +45,7 @@ impl Answer {
 
 /// What a command answered, and which command: its phase, its actor in the phase and its call of the actor, each
 /// counted from 0.
-#[derive(Clone, Copy, Debug, PartialEq, Eq)]
+#[derive(Clone, Copy)]
 pub struct Reply {
     pub phase: u32,
     pub actor: u32,
@@ -58,11 +59,8 @@ impl fmt::Display for Refusal {
     fn fmt<W: fmt::Write>(&self, f: &mut fmt::Formatter<W>) -> fmt::Result {
         match *self {
             Refusal::Outside => write!(f, "outside"),
-            Refusal::TooLarge { value } => write!(f, "too-large {value}"),
-            Refusal::Acquire(err) => {
-                let cause = Cause(err);
-                write!(f, "{cause}")
-            }
+            Refusal::TooLarge { value } => One("too-large", value as u128).fmt(f),
+            Refusal::Acquire(err) => Cause(err).fmt(f),
         }
     }
 }
@@ -93,17 +91,19 @@ impl fmt::Display for Answer {
 
     fn fmt<W: fmt::Write>(&self, f: &mut fmt::Formatter<W>) -> fmt::Result {
         match *self {
-            Answer::Value(value) => write!(f, "value {value}"),
+            Answer::Value(value) => One("value", value as u128).fmt(f),
             Answer::Done => write!(f, "done"),
-            Answer::Frame(painted) => {
-                let frame = Frame(painted);
-                write!(f, "{frame}")
-            }
+            Answer::Frame(painted) => Frame(painted).fmt(f),
             Answer::Fetched {
                 loaded,
                 held,
                 refused,
-            } => write!(f, "fetched {loaded} held {held} refused {refused}"),
+            } => {
+                let loaded = One("fetched", loaded as u128);
+                let held = One("held", held as u128);
+                let refused = One("refused", refused as u128);
+                Three(loaded, held, refused).fmt(f)
+            }
             Answer::Refused(refusal) => write!(f, "refused {refusal}"),
         }
     }

@@ -1,9 +1,10 @@
 // Why a call ends without a report, as a status and as a line.
 ghost use Rattle.std.specs.Prelude.{◌≡◌, IfOk, Some, string_bytes};
-ghost use Rattle.run_report.specs.Stop.{kind_text, status_of_stop, stop_text};
+ghost use Rattle.run_report.specs.Stop.{script_kind_text, status_of_stop, stop_text};
 ghost use Rattle.run_report.specs.Words.{line};
 
 use crate::dataset::Unopened;
+use crate::said::{One, Three};
 use cell_grid::GridErr;
 use n5_meta::OpenErr;
 use std::alloc::{AllocError, Global};
@@ -53,7 +54,7 @@ impl Stop {
 }
 
 fn kind_name(kind: ScriptKind) -> &'static str
-    ensures { result.now ≡ kind_text kind }
+    ensures { result.now ≡ script_kind_text kind }
 {
     match kind {
         ScriptKind::NotText => "not-text",
@@ -76,17 +77,20 @@ impl fmt::Display for Stop {
                 "usage: viewrun info ROOT | solo SCRIPT --slots N | run SCRIPT --slots N --fetchers N | demo N"
             ),
             Stop::Script { line, kind } => {
+                let place = One("script line", line as u128);
                 let name = kind_name(kind);
-                write!(f, "script line {line} {name}")
+                write!(f, "{place} {name}")
             }
-            Stop::Dataset(err) => {
-                let unopened = Unopened(err);
-                write!(f, "{unopened}")
-            }
+            Stop::Dataset(err) => Unopened(err).fmt(f),
             Stop::WriteFault => write!(f, "store write-fault"),
             Stop::Memory => write!(f, "memory"),
             Stop::ReadFault => write!(f, "script read-fault"),
-            Stop::Slots { found, low, high } => write!(f, "slots {found} outside {low} to {high}"),
+            Stop::Slots { found, low, high } => {
+                let found = One("slots", found as u128);
+                let low = One("outside", low as u128);
+                let high = One("to", high as u128);
+                Three(found, low, high).fmt(f)
+            }
         }
     }
 }

@@ -22,7 +22,7 @@ use Rattle.view_script.specs.declared.script_error.ScriptKind.TheVariants.{NotTe
 use Rattle.view_script.specs.Keyword.{keyword_in}
 use Rattle.view_script.specs.Line.{behind}
 use Rattle.view_script.specs.Lines.{lines_of}
-use Rattle.view_script.specs.Meaning.{said, added, with_line, opened, at_last, actors_in_last, may_stand, has_room, is_within_limits, has_own_name, is_new, in_range, demand, ◌>>=◌, after_said, after_words, after_line, at_line, is_remark, script_from, Answers}
+use Rattle.view_script.specs.Meaning.{said, with_read_line, with_line, opened, at_last, actors_in_last, may_stand, has_room, is_within_limits, has_own_name, is_new, in_range, demand, ◌>>=◌, after_said, after_words, after_line, at_line, is_remark, script_from, Answers}
 use Rattle.view_script.specs.Script.{IsScript, IsWithinLimits, root_of, command_count, pixel_count, view_names}
 use Rattle.view_script.specs.Words.{words_of}
 use Rattle.view_script.proofs.LastLemmas.{length-at_last, All-at_last, sum_by-at_last}
@@ -194,7 +194,7 @@ with_line_keeps script most line.Phase is said = phase_keeps script most is (ltb
 with_line_keeps script most line.Actor is said = actor_keeps script most is (ltb-true _ _ said.place)
 with_line_keeps script most (line.Command command) is said = command_keeps script most command is said
 
-added_keeps : (so_far : Option Script) (most : ℕ) (says : Line) → IsDraftOf so_far most → IsSaid so_far says → IsDraftOf (added so_far says) (most + 1)
+added_keeps : (so_far : Option Script) (most : ℕ) (says : Line) → IsDraftOf so_far most → IsSaid so_far says → IsDraftOf (with_read_line so_far says) (most + 1)
 added_keeps None most (line.Raw root kind dims cell) is said = opened_keeps _ _ said.words
 added_keeps None most (line.Open root) is said = opened_keeps _ _ said.words
 added_keeps None most (line.Range range) is said = tt
@@ -217,7 +217,7 @@ more_keeps (Some script) most is = record {
 }
 
 said_line_keeps : (so_far : Option Script) (most : ℕ) (says : Result Line ScriptKind) → IsDraftOf so_far most → IfOk says (IsSaid so_far)
-    → IfOk (says >>= λ line. Ok (added so_far line)) (λ next. IsDraftOf next (most + 1))
+    → IfOk (says >>= λ line. Ok (with_read_line so_far line)) (λ next. IsDraftOf next (most + 1))
 said_line_keeps so_far most (Ok says) is said = added_keeps so_far most says is said
 said_line_keeps so_far most (Err kind) is said = tt
 

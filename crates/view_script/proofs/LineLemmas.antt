@@ -11,7 +11,7 @@ use Rattle.view_script.specs.declared.line.Line.TheVariants as line
 use Rattle.view_script.specs.declared.script_error.ScriptKind.TheVariants.{Limit}
 use Rattle.view_script.specs.Line.{raw, open_root, range, get, set, view, fetch, behind}
 use Rattle.view_script.specs.Number.{number_in}
-use Rattle.view_script.specs.Reading.{word_as, root_in, kind_in, number, number_above, above, three, any}
+use Rattle.view_script.specs.Reading.{word_as, root_in, kind_in, number_word, number_above, above, three_words, any}
 use Rattle.view_script.specs.Script.{IsWithinLimits}
 use Rattle.view_script.specs.ViewLine.{name_in, side, level_in, strategy_words, map_words}
 use Rattle.view_script.proofs.ReadingLemmas.{Gives, gives_any, gives_then, gives_word, gives_ended, number_gives}
@@ -50,8 +50,8 @@ raw_gives : Gives raw IsLine
 unfolding raw
 raw_gives = gives_then (word_as root_in) _ _ _ root_gives (λ root named.
     gives_then (word_as kind_in) _ _ _ (gives_any (word_as kind_in)) (λ kind _.
-    gives_then (three any) _ _ _ (gives_any (three any)) (λ dims _.
-    gives_then (three (2 ^ 32 - 1)) _ _ _ (gives_any (three (2 ^ 32 - 1))) (λ cell _.
+    gives_then (three_words any) _ _ _ (gives_any (three_words any)) (λ dims _.
+    gives_then (three_words (2 ^ 32 - 1)) _ _ _ (gives_any (three_words (2 ^ 32 - 1))) (λ cell _.
     gives_ended (line.Raw root kind dims cell) _ named))))
 
 open_gives : Gives open_root IsLine
@@ -60,21 +60,21 @@ open_gives = gives_then (word_as root_in) _ _ _ root_gives (λ root named. gives
 
 range_gives : Gives range IsLine
 unfolding range
-range_gives = gives_then (number any) _ _ _ (gives_any (number any)) (λ low _.
+range_gives = gives_then (number_word any) _ _ _ (gives_any (number_word any)) (λ low _.
     gives_then (number_above low) _ _ _ (number_above_gives low) (λ high above.
     gives_ended (line.Range (low ∷ high ∷ [])) _ above))
 
 get_gives : Gives get IsLine
 unfolding get
-get_gives = gives_then (number 7) _ _ _ (number_gives 7) (λ level within.
-    gives_then (three any) _ _ _ (gives_any (three any)) (λ pos _.
+get_gives = gives_then (number_word 7) _ _ _ (number_gives 7) (λ level within.
+    gives_then (three_words any) _ _ _ (gives_any (three_words any)) (λ pos _.
     gives_ended (line.Command (command.Get level pos)) _ within))
 
 set_gives : Gives set IsLine
 unfolding set
-set_gives = gives_then (number 7) _ _ _ (number_gives 7) (λ level within.
-    gives_then (three any) _ _ _ (gives_any (three any)) (λ pos _.
-    gives_then (number any) _ _ _ (gives_any (number any)) (λ value _.
+set_gives = gives_then (number_word 7) _ _ _ (number_gives 7) (λ level within.
+    gives_then (three_words any) _ _ _ (gives_any (three_words any)) (λ pos _.
+    gives_then (number_word any) _ _ _ (gives_any (number_word any)) (λ value _.
     gives_ended (line.Command (command.Set level pos value)) _ within)))
 
 view_gives : Gives view IsLine
@@ -90,7 +90,7 @@ view_gives = gives_then (word_as name_in) _ _ _ name_gives (λ name named.
 
 fetch_gives : Gives fetch IsLine
 unfolding fetch
-fetch_gives = gives_then (number (2 ^ 18)) _ _ _ (number_gives (2 ^ 18)) (λ count within. gives_ended (line.Command (command.Fetch count)) _ within)
+fetch_gives = gives_then (number_word (2 ^ 18)) _ _ _ (number_gives (2 ^ 18)) (λ count within. gives_ended (line.Command (command.Fetch count)) _ within)
 
 pub line_gives : (first : Keyword) → Gives (behind first) IsLine
 line_gives keyword.Raw = raw_gives

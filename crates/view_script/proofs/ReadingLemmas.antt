@@ -4,7 +4,7 @@ use Rattle.std.specs.Prelude.{IfOk}
 use Rattle.std.proofs.lemmas.Grind.{common_steps}
 use Rattle.view_script.specs.declared.script_error.ScriptKind.{ScriptKind}
 use Rattle.view_script.specs.Number.{number_in}
-use Rattle.view_script.specs.Reading.{Reading, ◌>>=◌, followed, give, word_as, with_rest, ended, at_most, number}
+use Rattle.view_script.specs.Reading.{Reading, ◌>>=◌, followed, give, word_as, with_rest, ended, at_most, number_word}
 
 -- P holds of each value that a reading gives
 pub record Gives {A : Type 0} (reading : Reading A) (P : A → Type 0) : Type 0 where
@@ -50,7 +50,7 @@ gives_value x P holds = record { holds = λ words. holds }
 at_most_gives : (most n : ℕ) → IfOk (at_most most (Some n)) (λ n. n ≤ most)
 at_most_gives most n = grind (arith, common_steps)
 
-pub number_gives : (most : ℕ) → Gives (number most) (λ n. n ≤ most)
+pub number_gives : (most : ℕ) → Gives (number_word most) (λ n. n ≤ most)
 number_gives most = gives_word (λ word. at_most most (number_in word)) _ (λ word. each (number_in word))
   where
     each : (n : Option ℕ) → IfOk (at_most most n) (λ n. n ≤ most)

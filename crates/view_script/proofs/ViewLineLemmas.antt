@@ -9,7 +9,7 @@ use Rattle.whole_affine.specs.Affine.{IsMap}
 use Rattle.view_script.specs.declared.script_error.ScriptKind.TheVariants.{Limit, UnknownWord}
 use Rattle.view_script.specs.Name.{is_view_name}
 use Rattle.view_script.specs.Number.{number_in}
-use Rattle.view_script.specs.Reading.{word_as, at_most, between, number, number_between}
+use Rattle.view_script.specs.Reading.{word_as, at_most, between, number_word, number_between}
 use Rattle.view_script.specs.Script.{IsSide, budget_of}
 use Rattle.view_script.specs.ViewLine.{name_in, side, given_level, level_in, strategy_in, budgeted, or_budgeted, strategy_words, signed, behind_minus, entry_from, entry_in, matrix_row, map_words}
 use Rattle.view_script.proofs.ReadingLemmas.{Gives, gives_then, gives_word, gives_value, number_gives}
@@ -80,7 +80,7 @@ plain_gives = gives_word strategy_in _ (λ word. go (bytes_eq word (codes "block
 
 budgeted_gives : Gives budgeted IsWithinBudget
 unfolding budgeted
-budgeted_gives = gives_then (number (2 ^ 20)) _ _ _ (number_gives (2 ^ 20)) (λ cells within. gives_value (strategy.Budgeted cells) _ within)
+budgeted_gives = gives_then (number_word (2 ^ 20)) _ _ _ (number_gives (2 ^ 20)) (λ cells within. gives_value (strategy.Budgeted cells) _ within)
 
 pub strategy_gives : Gives strategy_words IsWithinBudget
 unfolding strategy_words

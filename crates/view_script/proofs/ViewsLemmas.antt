@@ -11,7 +11,7 @@ use Rattle.std.proofs.lemmas.List.Sums.{sum_by_push}
 use Rattle.view_script.specs.declared.command.Command.{Command}
 use Rattle.view_script.specs.declared.line.Line.TheVariants as line
 use Rattle.view_script.specs.declared.script.Script.{Script}
-use Rattle.view_script.specs.Meaning.{actors_in_last, added, at_last, is_named}
+use Rattle.view_script.specs.Meaning.{actors_in_last, with_read_line, at_last, is_named}
 use Rattle.view_script.specs.Script.{pixels_of, pixel_count, name_of, view_names}
 use Rattle.view_script.specs.Views.{Kept, KeepsViews, KeepsOneMore, phases_of}
 use Rattle.view_script.proofs.DraftLemmas.{change_none}
@@ -111,10 +111,10 @@ kept_command old new command phases is more some = record {
 }
 
 -- what is kept stays so with a phase and an actor more, where there is a script
-pub kept_in_phase : (kept : Kept) (so_far : Option Script) → KeepsViews kept (phases_of so_far) → KeepsViews kept (phases_of (added so_far line.Phase))
+pub kept_in_phase : (kept : Kept) (so_far : Option Script) → KeepsViews kept (phases_of so_far) → KeepsViews kept (phases_of (with_read_line so_far line.Phase))
 kept_in_phase kept None is = is
 kept_in_phase kept (Some script) is = kept_phase kept script.phases is
 
-pub kept_in_actor : (kept : Kept) (so_far : Option Script) → KeepsViews kept (phases_of so_far) → KeepsViews kept (phases_of (added so_far line.Actor))
+pub kept_in_actor : (kept : Kept) (so_far : Option Script) → KeepsViews kept (phases_of so_far) → KeepsViews kept (phases_of (with_read_line so_far line.Actor))
 kept_in_actor kept None is = is
 kept_in_actor kept (Some script) is = kept_actor kept script.phases is

@@ -5,15 +5,15 @@ use Rattle.view_script.specs.declared.line.Keyword.{Keyword}
 use Rattle.view_script.specs.declared.line.Keyword.TheVariants as keyword
 use Rattle.view_script.specs.declared.line.Line.{Line}
 use Rattle.view_script.specs.declared.line.Line.TheVariants as line
-use Rattle.view_script.specs.Reading.{Reading, ◌>>=◌, word_as, ended, root_in, kind_in, number, number_above, three, any}
+use Rattle.view_script.specs.Reading.{Reading, ◌>>=◌, word_as, ended, root_in, kind_in, number_word, number_above, three_words, any}
 use Rattle.view_script.specs.ViewLine.{name_in, side, level_in, strategy_words, map_words}
 
 unfoldable pub raw : Reading Line
 raw = do
   root ← word_as root_in
   kind ← word_as kind_in
-  dims ← three any
-  cell ← three (2 ^ 32 - 1)
+  dims ← three_words any
+  cell ← three_words (2 ^ 32 - 1)
   ended (line.Raw root kind dims cell)
 
 unfoldable pub open_root : Reading Line
@@ -23,21 +23,21 @@ open_root = do
 
 unfoldable pub range : Reading Line
 range = do
-  low ← number any
+  low ← number_word any
   high ← number_above low
   ended (line.Range (low ∷ high ∷ []))
 
 unfoldable pub get : Reading Line
 get = do
-  level ← number 7
-  pos ← three any
+  level ← number_word 7
+  pos ← three_words any
   ended (line.Command (command.Get level pos))
 
 unfoldable pub set : Reading Line
 set = do
-  level ← number 7
-  pos ← three any
-  value ← number any
+  level ← number_word 7
+  pos ← three_words any
+  value ← number_word any
   ended (line.Command (command.Set level pos value))
 
 -- a view shows 0 to 255, where no range is given
@@ -53,7 +53,7 @@ view = do
 
 unfoldable pub fetch : Reading Line
 fetch = do
-  count ← number (2 ^ 18)
+  count ← number_word (2 ^ 18)
   ended (line.Command (command.Fetch count))
 
 abbrev pub behind : Keyword → Reading Line

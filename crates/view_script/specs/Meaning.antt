@@ -116,11 +116,11 @@ with_line script line.Phase = record script { phases = script.phases ++ [] ∷ [
 with_line script line.Actor = record script { phases = at_last (λ actors. actors ++ [] ∷ []) script.phases }
 with_line script (line.Command command) = record script { phases = at_last (at_last (λ commands. commands ++ in_range script.range command ∷ [])) script.phases }
 
-abbrev pub added : Option Script → Line → Option Script
-added None (line.Raw root kind dims cell) = Some (opened (head.Raw root kind dims cell))
-added None (line.Open root) = Some (opened (head.Pyramid root))
-added None other = None
-added (Some script) said = Some (with_line script said)
+abbrev pub with_read_line : Option Script → Line → Option Script
+with_read_line None (line.Raw root kind dims cell) = Some (opened (head.Raw root kind dims cell))
+with_read_line None (line.Open root) = Some (opened (head.Pyramid root))
+with_read_line None other = None
+with_read_line (Some script) said = Some (with_line script said)
 
 -- a line without words, or whose first word begins with `#`, says nothing
 abbrev pub is_remark : List ℕ → Bool
@@ -130,7 +130,7 @@ is_remark (b ∷ word) = b == 35
 abbrev pub after_said : Option Script → List ℕ → List ℕ → List (List ℕ) → Result (Option Script) ScriptKind
 after_said so_far bytes first words = do
   line ← said so_far bytes first words
-  Ok (added so_far line)
+  Ok (with_read_line so_far line)
 
 abbrev pub after_words : Option Script → List ℕ → List (List ℕ) → Result (Option Script) ScriptKind
 after_words so_far bytes [] = Ok so_far

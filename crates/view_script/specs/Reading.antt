@@ -63,8 +63,8 @@ kind_in word =
     if bytes_eq word (codes "uint32") then Ok U32 else
     if bytes_eq word (codes "uint64") then Ok U64 else Err UnknownWord
 
-abbrev pub number : ℕ → Reading ℕ
-number most = word_as (λ word. at_most most (number_in word))
+abbrev pub number_word : ℕ → Reading ℕ
+number_word most = word_as (λ word. at_most most (number_in word))
 
 abbrev pub number_above : ℕ → Reading ℕ
 number_above low = word_as (λ word. above low (number_in word))
@@ -73,11 +73,11 @@ abbrev pub number_between : ℕ → ℕ → Reading ℕ
 number_between least most = word_as (λ word. between least most (number_in word))
 
 -- numbers along x, y and z
-unfoldable pub three : ℕ → Reading (List ℕ)
-three most = do
-  x ← number most
-  y ← number most
-  z ← number most
+unfoldable pub three_words : ℕ → Reading (List ℕ)
+three_words most = do
+  x ← number_word most
+  y ← number_word most
+  z ← number_word most
   give (x ∷ y ∷ z ∷ [])
 
 -- any number that a word can be

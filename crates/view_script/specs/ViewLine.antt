@@ -8,7 +8,7 @@ use Rattle.view_script.specs.declared.script_error.ScriptKind.{ScriptKind}
 use Rattle.view_script.specs.declared.script_error.ScriptKind.TheVariants.{UnknownWord, Limit}
 use Rattle.view_script.specs.Name.{is_view_name}
 use Rattle.view_script.specs.Number.{number_in}
-use Rattle.view_script.specs.Reading.{Reading, ◌>>=◌, give, word_as, at_most, number, number_between}
+use Rattle.view_script.specs.Reading.{Reading, ◌>>=◌, give, word_as, at_most, number_word, number_between}
 
 abbrev pub name_in : List ℕ → Result (List ℕ) ScriptKind
 name_in word = if is_view_name word then Ok word else Err Limit
@@ -35,7 +35,7 @@ strategy_in word =
 
 unfoldable pub budgeted : Reading Strategy
 budgeted = do
-  cells ← number (2 ^ 20)
+  cells ← number_word (2 ^ 20)
   give (strategy.Budgeted cells)
 
 abbrev pub or_budgeted : Option Strategy → Reading Strategy

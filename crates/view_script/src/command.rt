@@ -3,7 +3,7 @@ use crate::name::Name;
 use scale_pick::View;
 
 /// What an actor does in one line.
-#[derive(Debug, Drop)]
+#[derive(Drop)]
 pub enum Command {
     /// Asks for the value of a voxel, at a position (x, y, z) of a level.
     Get {

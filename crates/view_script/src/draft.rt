@@ -1,7 +1,7 @@
 // The script that the lines so far say.
 ghost use Rattle.std.specs.Prelude.{◌≡◌, ◌++◌, [], ◌∷◌, Some, true, IfOk, OnOk};
 ghost use Rattle.std.specs.Str.{is_utf8};
-ghost use Rattle.view_script.specs.Meaning.{actors_in_last, may_stand, has_room, is_within_limits, is_new, said, added, at_last, in_range, shown_in, opened, with_line};
+ghost use Rattle.view_script.specs.Meaning.{actors_in_last, may_stand, has_room, is_within_limits, is_new, said, with_read_line, at_last, in_range, shown_in, opened, with_line};
 ghost use Rattle.view_script.specs.Script.{pixel_count};
 ghost use Rattle.view_script.specs.Views.{KeepsViews, phases_of};
 
@@ -119,7 +119,7 @@ pub fn add(
 ) -> Result<(), AllocError>
     requires kept { KeepsViews views.old (phases_of so_far.old) }
     requires within { is_within_limits so_far.old line ≡ true }
-    ensures added { OnOk result (so_far.new ≡ added so_far.old line.entry) }
+    ensures added { OnOk result (so_far.new ≡ with_read_line so_far.old line.entry) }
     ensures kept { OnOk result (KeepsViews views.new (phases_of so_far.new)) }
 {
     match line {
@@ -226,7 +226,7 @@ fn start(alloc: Global, so_far: &mut Option<Script>, views: &mut Views, head: He
 
 /// Sets the range that a script's views show.
 fn set_range(so_far: &mut Option<Script>, range: [u64; 2])
-    ensures { so_far.new ≡ added so_far.old (Line.Range range) }
+    ensures { so_far.new ≡ with_read_line so_far.old (Line.Range range) }
 {
     if let Some(script) = so_far {
         script.range = Some(range);
@@ -235,7 +235,7 @@ fn set_range(so_far: &mut Option<Script>, range: [u64; 2])
 
 /// Adds a phase without actors.
 fn add_phase(alloc: Global, so_far: &mut Option<Script>) -> Result<(), AllocError>
-    ensures { OnOk result (so_far.new ≡ added so_far.old Line.Phase) }
+    ensures { OnOk result (so_far.new ≡ with_read_line so_far.old Line.Phase) }
 {
     if let Some(script) = so_far {
         script.phases.push(Items::new(alloc))?;
@@ -246,7 +246,7 @@ fn add_phase(alloc: Global, so_far: &mut Option<Script>) -> Result<(), AllocErro
 /// Adds an actor without commands to the last phase.
 #[tactic(auto, using(crate::proofs::DraftLemmas::set_last, crate::proofs::DraftLemmas::change_none))]
 fn add_actor(alloc: Global, so_far: &mut Option<Script>) -> Result<(), AllocError>
-    ensures { OnOk result (so_far.new ≡ added so_far.old Line.Actor) }
+    ensures { OnOk result (so_far.new ≡ with_read_line so_far.old Line.Actor) }
 {
     if let Some(script) = so_far {
         if let Some(actors) = script.phases.last_mut() {

@@ -4,7 +4,7 @@ use crate::root::Root;
 use cell_grid::Kind;
 
 /// The first word of a line.
-#[derive(Clone, Copy, Debug, PartialEq, Eq)]
+#[derive(Clone, Copy)]
 pub enum Keyword {
     Raw,
     Open,

@@ -1,7 +1,7 @@
 // Names of views.
 ghost use Rattle.std.specs.Prelude.{◌≡◌, ◌≤◌, List, ℕ, length, if◌then◌else◌};
 ghost use Rattle.std.specs.List.{list_all};
-ghost use Rattle.view_script.specs.Name.{is_name_byte, is_view_name};
+ghost use Rattle.view_script.specs.Name.{is_view_name_byte, is_view_name};
 
 use arrayvec::ArrayString;
 use std::marker::Model;
@@ -11,7 +11,7 @@ use std::str;
 const LONGEST_NAME: usize = 32;
 
 /// A view's name: 1 to 32 bytes, each a lower-case letter, a digit or `_`. In contracts it is the list of its bytes.
-#[derive(Debug, Drop)]
+#[derive(Drop)]
 pub struct Name {
     text: ArrayString<32>,
 }
@@ -62,7 +62,7 @@ fn is_name(word: &[u8]) -> bool
 }
 
 fn are_name_bytes(word: &[u8]) -> bool
-    ensures { result ≡ list_all is_name_byte word.now }
+    ensures { result ≡ list_all is_view_name_byte word.now }
 {
     word.iter().all(|b| b.is_ascii_lowercase() || b.is_ascii_digit() || *b == b'_')
 }

@@ -16,7 +16,7 @@ use std::alloc::{AllocError, Global};
 const MAX_BYTES: usize = 1 << 20;
 
 /// Why a line is not taken.
-#[derive(Clone, Copy, Debug, PartialEq, Eq)]
+#[derive(Clone, Copy)]
 pub enum LineErr {
     Rule(ScriptKind),
     Memory,
@@ -110,8 +110,3 @@ fn begins_remark(first: &[u8]) -> bool
 {
     matches!(first, [b'#', ..])
 }
-
-#[cfg(test)]
-mod tests;
-#[cfg(test)]
-mod view_tests;

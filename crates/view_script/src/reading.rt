@@ -2,7 +2,7 @@
 ghost use Rattle.std.specs.Prelude.{◌≡◌, ◌-◌, ◌^◌, ◌<◌, ◌≤◌, IfOk};
 ghost use Rattle.view_script.specs.Keyword.{keyword_in};
 ghost use Rattle.view_script.specs.Line.{raw, open_root, range, get, set, view, fetch, behind};
-ghost use Rattle.view_script.specs.Reading.{Reads, EndsWith, TakesWord, word_as, root_in, kind_in, number, number_above, number_between, three, any};
+ghost use Rattle.view_script.specs.Reading.{Reads, EndsWith, TakesWord, word_as, root_in, kind_in, number_word, number_above, number_between, three_words, any};
 
 use crate::command::Command;
 use crate::line::{Keyword, Line};
@@ -177,7 +177,7 @@ fn next_kind(words: &mut Words) -> Result<Kind, ScriptKind>
 }
 
 pub fn next_number(words: &mut Words, most: u64) -> Result<u64, ScriptKind>
-    ensures reads { Reads (number most) words.old words.new result }
+    ensures reads { Reads (number_word most) words.old words.new result }
     ensures within { IfOk result (λ n. n ≤ most) }
 {
     let word = next_word(words)?;
@@ -213,15 +213,15 @@ fn next_number_above(words: &mut Words, low: u64) -> Result<u64, ScriptKind>
 }
 
 fn next_level(words: &mut Words) -> Result<u8, ScriptKind>
-    ensures { Reads (number 7) words.old words.new result }
+    ensures { Reads (number_word 7) words.old words.new result }
 {
     let level = next_number(words, MAX_LEVEL)?;
     Ok(level as u8)
 }
 
-#[tactic(auto, unfolding(crate::specs::Reading::three))]
+#[tactic(auto, unfolding(crate::specs::Reading::three_words))]
 fn next_three(words: &mut Words) -> Result<[u64; 3], ScriptKind>
-    ensures { Reads (three any) words.old words.new result }
+    ensures { Reads (three_words any) words.old words.new result }
 {
     let x = next_number(words, u64::MAX)?;
     let y = next_number(words, u64::MAX)?;
@@ -229,9 +229,9 @@ fn next_three(words: &mut Words) -> Result<[u64; 3], ScriptKind>
     Ok([x, y, z])
 }
 
-#[tactic(auto, unfolding(crate::specs::Reading::three))]
+#[tactic(auto, unfolding(crate::specs::Reading::three_words))]
 fn next_three_small(words: &mut Words) -> Result<[u32; 3], ScriptKind>
-    ensures { Reads (three (2 ^ 32 - 1)) words.old words.new result }
+    ensures { Reads (three_words (2 ^ 32 - 1)) words.old words.new result }
 {
     let x = next_number(words, u32::MAX as u64)?;
     let y = next_number(words, u32::MAX as u64)?;

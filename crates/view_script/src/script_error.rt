@@ -25,7 +25,7 @@ pub enum ScriptKind {
 pub enum ScriptErr {
     /// The first rule that is broken, and the number of the line that breaks it, from 1. Line 0 is the
     /// script as a whole, which is too long.
-    #[error("line {line}: {kind}")]
+    #[error("a line breaks a rule")]
     At { line: u32, kind: ScriptKind },
     #[error("out of memory")]
     Memory,

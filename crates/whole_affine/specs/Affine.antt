@@ -32,8 +32,8 @@ abbrev pub are_small : List (List ℤ) → Bool
 are_small rows = list_all (list_all is_small) rows
 
 -- the first rule that a map breaks
-abbrev pub broken_rule : ℕ → List (List ℤ) → Option AffineErr
-broken_rule q rows =
+abbrev pub broken_map_rule : ℕ → List (List ℤ) → Option AffineErr
+broken_map_rule q rows =
     if q == 0 then Some ZeroDenominator else
     if nat_lt (2 ^ 31) q || not (are_small rows) then Some TooLarge else None
 

@@ -12,12 +12,12 @@ abbrev pub nearest : ℤ → ℕ → ℕ → ℤ
 nearest n q factor = int_div_euclid (halves_of n q) (pos (2 * q * factor))
 
 -- the coordinate of a pixel's nearest voxel on an axis of a level
-abbrev pub coordinate : Map → List ℕ → ℕ → ℕ → ℕ → ℤ
-coordinate map factor x y axis = nearest (numerator_in (row_of map axis) x y) map.q (slice_index factor axis)
+abbrev pub nearest_coordinate : Map → List ℕ → ℕ → ℕ → ℕ → ℤ
+nearest_coordinate map factor x y axis = nearest (numerator_in (row_of map axis) x y) map.q (slice_index factor axis)
 
 -- a pixel's nearest voxel in a level of these factors
 abbrev pub nearest_voxel : Map → List ℕ → ℕ → ℕ → List ℤ
-nearest_voxel map factor x y = coordinate map factor x y 0 ∷ coordinate map factor x y 1 ∷ coordinate map factor x y 2 ∷ []
+nearest_voxel map factor x y = nearest_coordinate map factor x y 0 ∷ nearest_coordinate map factor x y 1 ∷ nearest_coordinate map factor x y 2 ∷ []
 
 -- factors of a level, one an axis
 pub record IsFactor (factor : List ℕ) : Type 0 where

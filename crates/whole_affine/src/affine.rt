@@ -2,7 +2,7 @@
 ghost use Rattle.std.specs.Prelude.{◌≡◌, ℕ, ℤ, pos, ◌<◌, ◌≤◌, ◌^◌, List, slice_index_or, unsigned_abs, ◌*ℤ◌, ◌+ℤ◌, IfOk};
 ghost use Rattle.std.specs.List.{list_all};
 ghost use Rattle.std.specs.Result.{result_err};
-ghost use Rattle.whole_affine.specs.Affine.{numerator_in, point, steps_of, columns_of, broken_rule, is_small, are_small, IsMap, IsSmallPoint, IsSmallStep};
+ghost use Rattle.whole_affine.specs.Affine.{numerator_in, point, steps_of, columns_of, broken_map_rule, is_small, are_small, IsMap, IsSmallPoint, IsSmallStep};
 
 use std::marker::Model;
 use thiserror::Error;
@@ -46,7 +46,7 @@ impl Affine {
     /// The map of this denominator and this matrix.
     pub fn new(q: u64, rows: [[i64; 3]; 3]) -> Result<Affine, AffineErr>
         ensures made { IfOk result (λ map. map ≡ record { q = q; rows = rows }) }
-        ensures refused { result_err result ≡ broken_rule q rows }
+        ensures refused { result_err result ≡ broken_map_rule q rows }
     {
         if q == 0 {
             return Err(AffineErr::ZeroDenominator);

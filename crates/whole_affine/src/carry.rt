@@ -4,7 +4,7 @@ ghost use Rattle.std.specs.Int.{int_div_euclid, int_rem_euclid};
 ghost use Rattle.whole_affine.specs.Parts.{Parts};
 
 /// A coordinate that walks: its quotient and its remainder by one divisor, and those of its step.
-#[derive(Clone, Copy, Debug)]
+#[derive(Clone, Copy)]
 pub(crate) struct Carry {
     pub voxel: i64,
     pub rest: u64,

@@ -11,6 +11,3 @@ pub use affine::{Affine, AffineErr};
 pub use nearest_walk::NearestWalk;
 pub use row_walk::RowWalk;
 pub use voxel::nearest;
-
-#[cfg(test)]
-mod tests;

@@ -11,7 +11,7 @@ use crate::voxel::halves;
 /// The nearest voxel of a pixel, which walks along a row without a division.
 ///
 /// It is passed by value: `walk = walk.next()` moves it by one column.
-#[derive(Clone, Copy, Debug)]
+#[derive(Clone, Copy)]
 pub struct NearestWalk {
     x: Carry,
     y: Carry,

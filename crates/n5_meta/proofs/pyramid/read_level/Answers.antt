@@ -5,7 +5,7 @@ use Rattle.n5_meta.specs.declared.attr.Attr.{Attr}
 use Rattle.n5_meta.specs.declared.spot.Spot.TheVariants as spot
 use Rattle.n5_meta.specs.Asks.{attr_by}
 use Rattle.n5_meta.specs.Attr.{attributes_in}
-use Rattle.n5_meta.specs.Value.{Answers}
+use Rattle.n5_meta.specs.Value.{AnswersRead}
 use Rattle.n5_meta.proofs.AskLemmas.{asked_found, asked_refused, got_at}
 use Rattle.n5_meta.proofs.DecideLemmas.{attr_bad, attr_good, attr_refused}
 use Rattle.n5_meta.proofs.pyramid.read_level.Goals as goal
@@ -28,5 +28,5 @@ returns-in-Ok-read_attributes-clause-asks g c =
 pub returns-clause-asks : goal.returns-clause-asks
 returns-clause-asks g c =
     let at = c.as_str.ensures.value ∙ c.in-Ok.ensures in
-    let bad = subst (λ (bytes : List ℕ). Answers (λ (attr : Attr). attr) (Err c.in-Err.err) (attributes_in bytes)) c.as_slice.ensures.value c.in-Err.ensures in
+    let bad = subst (λ (bytes : List ℕ). AnswersRead (λ (attr : Attr). attr) (Err c.in-Err.err) (attributes_in bytes)) c.as_slice.ensures.value c.in-Err.ensures in
     rw c.refusal_at.ensures (asked_found _ (spot.Level c.args.level) (attr_by c.args.level) _ _ _ _ _ (got_at _ _ _ _ _ _ _ at c.in_ok-get_attributes.ensures.asks) (attr_bad _ _ _ bad))

@@ -4,12 +4,13 @@ use Rattle.std.specs.Prelude.{IsTrue}
 use Rattle.std.specs.Result.{is_err}
 use Rattle.std.proofs.lemmas.Result.{err_from_is_err_and}
 use Rattle.n5_meta.specs.declared.attr.Attr.{Attr}
-use Rattle.n5_meta.specs.Asks.{AsksOnce, IsAsked, attr_by}
+use Rattle.n5_meta.specs.Asks.{AsksOnce, IsAskedOfSetup, attr_by}
 use Rattle.n5_meta.specs.Pyramid.{attr_in, level_key}
 use Rattle.n5_meta.proofs.AskLemmas.{all_got, levels_unkept, none_got, one_got, one_refused}
 use Rattle.n5_meta.proofs.GetLemmas.{opens_nothing, opens_on, opens_refused}
 use Rattle.n5_meta.proofs.LoopLemmas.{described_goes_on, if_pushed}
 use Rattle.n5_meta.proofs.Prefixes.{prefixed_none}
+use Rattle.cell_store.specs.Store.{held_of}
 use Rattle.n5_meta.proofs.pyramid.read_levels.Goals as goal
 
 pub returns-then-is_err-clause-opens : goal.returns-then-is_err-clause-opens
@@ -31,7 +32,7 @@ returns-then-is_err-clause-asks g c =
     let root = c.args.root.now in
     let before = g.S.Store.contents c.loop-factor.store in
     let after = g.S.Store.contents c.read_level.new.store in
-    let asked = subst (λ level. IsAsked (AsksOnce (level_key root level) (attr_by level)) before after (Ok c.in_ok-attr.attr)) c.loop-factor.invariant.level c.in_ok-attr.ensures.asks in
+    let asked = subst (λ level. IsAskedOfSetup (AsksOnce (level_key root level) (attr_by level)) before after (Ok c.in_ok-attr.attr)) c.loop-factor.invariant.level c.in_ok-attr.ensures.asks in
     levels_unkept _ _ _ _ _ _ (one_got _ _ c.loop-factor.factor-index [] c.loop-factor-test.true _ c.in_ok-attr.attr _ _ _ c.loop-factor.invariant.got asked)
 
 pub returns-in_err-attr-clause-asks : goal.returns-in_err-attr-clause-asks
@@ -41,7 +42,7 @@ returns-in_err-attr-clause-asks g c =
     let before = g.S.Store.contents c.loop-factor.store in
     let after = g.S.Store.contents c.read_level.new.store in
     let err = c.in_err-attr.field-0.0 in
-    let asked = subst (λ level. IsAsked {A = Attr} (AsksOnce (level_key root level) (attr_by level)) before after (Err err)) c.loop-factor.invariant.level c.in_err-attr.ensures.asks in
+    let asked = subst (λ level. IsAskedOfSetup {A = Attr} (AsksOnce (level_key root level) (attr_by level)) before after (Err err)) c.loop-factor.invariant.level c.in_err-attr.ensures.asks in
     rw (p.1, p.2) (one_refused _ _ c.loop-factor.factor-index [] c.loop-factor-test.true _ err _ _ _ c.loop-factor.invariant.got asked)
 
 pub loop-factor-preserved : goal.loop-factor-preserved
@@ -50,8 +51,8 @@ loop-factor-preserved g c =
     let kept : is_err c.push.result ≡ false = grind (arith, c.if-is_err.false, c.is_err.ensures.value) in
     let before = g.S.Store.contents c.loop-factor.store in
     let after = g.S.Store.contents c.read_level.new.store in
-    let asked = subst (λ level. IsAsked (AsksOnce (level_key c.args.root.now level) (attr_by level)) (g.S.Store.contents c.loop-factor.store) after (Ok c.in_ok-attr.attr)) inv.level c.in_ok-attr.ensures.asks in
-    let read = subst (λ level. IsTrue before.told → attr_in level (before.held (level_key c.args.root.now level)) ≡ Ok c.in_ok-attr.attr) inv.level c.in_ok-attr.ensures.answer in
+    let asked = subst (λ level. IsAskedOfSetup (AsksOnce (level_key c.args.root.now level) (attr_by level)) (g.S.Store.contents c.loop-factor.store) after (Ok c.in_ok-attr.attr)) inv.level c.in_ok-attr.ensures.asks in
+    let read = subst (λ level. IsTrue before.told → attr_in level ((held_of before) (level_key c.args.root.now level)) ≡ Ok c.in_ok-attr.attr) inv.level c.in_ok-attr.ensures.answer in
     record {
       opens = opens_on _ _ _ _ _ inv.opens c.in_ok-attr.ensures.opens;
       got = rw (if_pushed c.push.result kept c.push.ensures.ok) (one_got _ _ c.loop-factor.factor-index _ c.loop-factor-test.true c.loop-factor.described c.in_ok-attr.attr _ _ _ inv.got asked);
