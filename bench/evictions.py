@@ -14,7 +14,9 @@ import sys
 import tempfile
 import time
 
-TOP = os.path.dirname(os.path.dirname(os.path.abspath(__file__)))
+sys.path.insert(0, os.path.join(os.path.dirname(os.path.dirname(os.path.abspath(__file__))), "tools"))
+import n5  # noqa: E402
+
 ROUNDS = 5
 EVICTIONS = 20_000
 SIDES = (4, 16)
@@ -39,7 +41,7 @@ def seconds(program, side, cells, slots):
 
 
 def main():
-    program = os.path.abspath(sys.argv[1]) if len(sys.argv) > 1 else os.path.join(TOP, "crates/viewrun/out/viewrun")
+    program = n5.built(*sys.argv[1:2])
     print("side of a cell   slots   evictions per second   us per eviction")
     for side in SIDES:
         for slots in SLOTS:

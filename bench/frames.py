@@ -16,7 +16,9 @@ import subprocess
 import sys
 import tempfile
 
-TOP = os.path.dirname(os.path.dirname(os.path.abspath(__file__)))
+sys.path.insert(0, os.path.join(os.path.dirname(os.path.dirname(os.path.abspath(__file__))), "tools"))
+import n5  # noqa: E402
+
 ROUNDS = 5
 FRAMES = 40
 SIDE = 512
@@ -60,7 +62,7 @@ def looks_of(cell):
 
 
 def main():
-    program = os.path.abspath(sys.argv[1]) if len(sys.argv) > 1 else os.path.join(TOP, "crates/viewrun/out/viewrun")
+    program = n5.built(*sys.argv[1:2])
     cases = [(cell, held, frames) for cell in CELLS for held in (True, False) for frames in (0, FRAMES)]
     best = dict.fromkeys(cases, float("inf"))
     for _ in range(ROUNDS):

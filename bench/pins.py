@@ -18,7 +18,9 @@ import sys
 import tempfile
 import time
 
-TOP = os.path.dirname(os.path.dirname(os.path.abspath(__file__)))
+sys.path.insert(0, os.path.join(os.path.dirname(os.path.dirname(os.path.abspath(__file__))), "tools"))
+import n5  # noqa: E402
+
 RUNS = 5
 VISITS = 16
 # how often it is done in a round
@@ -59,12 +61,12 @@ def built(folder):
     if rustc is None:
         return []
     program = os.path.join(folder, "atomics")
-    subprocess.run([rustc, "--edition", "2021", "-O", "-o", program, os.path.join(TOP, "bench/atomics.rs")], check=True)
+    subprocess.run([rustc, "--edition", "2021", "-O", "-o", program, os.path.join(n5.TOP, "bench/atomics.rs")], check=True)
     return [program]
 
 
 def main():
-    program = os.path.abspath(sys.argv[1]) if len(sys.argv) > 1 else os.path.join(TOP, "crates/pin_time/out/pin_time")
+    program = n5.built(*sys.argv[1:2] or [None], crate="pin_time")
     with tempfile.TemporaryDirectory() as folder:
         programs = [program] + built(folder)
         print("what   threads   table ns" + ("   atomics ns" if len(programs) > 1 else ""))

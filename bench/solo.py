@@ -12,7 +12,9 @@ import sys
 import tempfile
 import time
 
-TOP = os.path.dirname(os.path.dirname(os.path.abspath(__file__)))
+sys.path.insert(0, os.path.join(os.path.dirname(os.path.dirname(os.path.abspath(__file__))), "tools"))
+import n5  # noqa: E402
+
 ROUNDS = 5
 GETS = 100_000
 # a script holds at most 2^20 bytes, so the gets are dealt over some scripts
@@ -38,7 +40,7 @@ def script(head, commands):
 
 
 def main():
-    program = os.path.abspath(sys.argv[1]) if len(sys.argv) > 1 else os.path.join(TOP, "crates/viewrun/out/viewrun")
+    program = n5.built(*sys.argv[1:2])
     small = f"raw v uint8 64 64 64 {SIDE} {SIDE} {SIDE}"
     inside = [f"get 0 {n % 2 * 40} 1 {n % 9}" for n in range(GETS // SCRIPTS)]
     outside = [f"get 0 {99 - n % 2} 1 {n % 9}" for n in range(GETS // SCRIPTS)]

@@ -12,7 +12,9 @@ import subprocess
 import sys
 import time
 
-TOP = os.path.dirname(os.path.dirname(os.path.abspath(__file__)))
+sys.path.insert(0, os.path.join(os.path.dirname(os.path.dirname(os.path.abspath(__file__))), "tools"))
+import n5  # noqa: E402
+
 ROUNDS = 5
 PICTURES = 60
 PIXELS = PICTURES * 512 * 512
@@ -29,7 +31,7 @@ def run(program, way, view, factor, pictures):
 
 
 def main():
-    program = os.path.abspath(sys.argv[1]) if len(sys.argv) > 1 else os.path.join(TOP, "crates/walk_time/out/walk_time")
+    program = n5.built(*sys.argv[1:2] or [None], crate="walk_time")
     print("view      factor   walk ns/pixel   formula ns/pixel")
     for view in ("straight", "turned"):
         for factor in (1, 2):

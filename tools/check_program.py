@@ -6,14 +6,15 @@
 It shows what no contract can say, since a folder is outside: an edit survives its eviction and a second run; a file where
 the folder of edited cells should be is a fault that changes no other file; a view's picture is written, and put again over
 an old one that was longer; where the folder of pictures can't be, the picture is named; scripts without a last line end,
-without a byte, and of one byte too many get their statuses at once. No part of the gate.
+without a byte, and of one byte too many get their statuses at once. `.ci/run` runs it after `rt ci`.
 """
 import os
 import subprocess
 import sys
 import tempfile
 
-TOP = os.path.dirname(os.path.dirname(os.path.abspath(__file__)))
+import n5
+
 HEAD = "raw vol uint8 6 2 2 2 2 2\n"
 EDITED = bytes.fromhex("000000030000000200000002000000020900000000000000")
 UNIT = "1 1 0 0 0 1 0 0 0 0\n"
@@ -28,8 +29,7 @@ class Folder:
         self.path = tempfile.mkdtemp()
 
     def write(self, name, data):
-        with open(os.path.join(self.path, name), "wb") as file:
-            file.write(data if isinstance(data, bytes) else data.encode())
+        n5.write(os.path.join(self.path, name), data)
 
     def files(self):
         found = {}
@@ -87,7 +87,6 @@ def a_put_that_fails_names_the_cell(program):
 
 def a_picture_is_put_again(program):
     folder = Folder(program)
-    os.makedirs(os.path.join(folder.path, "vol/0/0"))
     folder.write("vol/0/0/0", bytes.fromhex("0000000300000002000000020000000201ff000a00000000"))
     text = "0.0.0 frame level 0 complete\ntally hits 0 misses 1 loads 1 evictions 0 writebacks 0 closed 1\n"
     folder.run(HEAD + "phase\nactor\nview a_1 2 2 0 blocking " + UNIT, 0, text)
@@ -121,7 +120,7 @@ def scripts_get_their_statuses(program):
 
 
 def main():
-    program = os.path.abspath(sys.argv[1]) if len(sys.argv) > 1 else os.path.join(TOP, "crates/viewrun/out/viewrun")
+    program = n5.built(*sys.argv[1:2])
     an_edit_survives(program)
     a_file_in_place_of_a_folder_is_a_fault(program)
     a_put_that_fails_names_the_cell(program)

@@ -15,23 +15,19 @@ import json
 import os
 import random
 import shutil
-import struct
 import subprocess
 import sys
 import tempfile
 
+import n5
 import solo_reference
 
-TOP = os.path.dirname(os.path.dirname(os.path.abspath(__file__)))
 KINDS = ("uint8", "uint8", "uint16", "uint32", "uint64")
 STRATEGIES = ("blocking", "volatile", "volatile", "dontload", "budgeted")
 
 
 def write(folder, key, data):
-    path = os.path.join(folder, key)
-    os.makedirs(os.path.dirname(path), exist_ok=True)
-    with open(path, "wb") as file:
-        file.write(data if isinstance(data, bytes) else data.encode())
+    n5.write(os.path.join(folder, key), data)
 
 
 class Maker:
@@ -68,9 +64,7 @@ class Maker:
     def block(self, dims, cell, kind, grid):
         need = [min(c, d - g * c) for c, d, g in zip(cell, dims, grid)]
         sides = [self.random.choice([n, self.number(n, c), c]) for n, c in zip(need, cell)]
-        width = solo_reference.WIDTHS[kind]
-        data = struct.pack(">HHIII", 0, 3, *sides)
-        data += b"".join(self.value(kind).to_bytes(width, "big") for _ in range(sides[0] * sides[1] * sides[2]))
+        data = n5.block(sides, kind, [self.value(kind) for _ in range(sides[0] * sides[1] * sides[2])])
         if self.chance(0.95):
             return data
         broken = [data[:-1], data + b"\0", data[: self.number(0, 15)], b"\0\1" + data[2:], data[:3] + b"\2" + data[4:], data[:7] + b"\7" + data[8:]]
@@ -84,8 +78,7 @@ class Maker:
                 attributes = {"dimensions": dims, "blockSize": cell, "dataType": kind, "compression": {"type": "raw"}}
                 write(folder, here + "attributes.json", json.dumps(attributes))
             share = 0.05 if self.many else self.random.choice([0, 0.8, 0.8, 1])
-            counts = [-(-d // c) for d, c in zip(dims, cell)]
-            for x, y, z in ((x, y, z) for z in range(counts[2]) for y in range(counts[1]) for x in range(counts[0])):
+            for (x, y, z), _ in n5.cells(dims, cell):
                 if self.chance(share):
                     write(folder, f"{here}{x}/{y}/{z}", self.block(dims, cell, kind, [x, y, z]))
         if not self.plain:
@@ -217,11 +210,11 @@ def compare(program, seed, top, seen):
 
 def main():
     words = argparse.ArgumentParser()
-    words.add_argument("program", nargs="?", default=os.path.join(TOP, "crates/viewrun/out/viewrun"))
+    words.add_argument("program", nargs="?")
     words.add_argument("--runs", type=int, default=200)
     words.add_argument("--seed", type=int, default=1)
     words = words.parse_args()
-    program, top, seen = os.path.abspath(words.program), tempfile.mkdtemp(), collections.Counter()
+    program, top, seen = n5.built(words.program), tempfile.mkdtemp(), collections.Counter()
     good = sum(compare(program, seed, top, seen) for seed in range(words.seed, words.seed + words.runs))
     told = ("value", "done", "complete", "partial", "fetched", "outside", "too-large", "malformed", "too-long", "read-fault", "write-fault", "unsaved", "unwritten")
     print(" ".join(f"{word} {seen[word]}" for word in (*dict.fromkeys(STRATEGIES), *told)))

@@ -9,7 +9,10 @@ rounded down. Cells are 16 x 16 x 4, cropped at the end of z. It needs Python al
 import json
 import math
 import os
-import struct
+import sys
+
+sys.path.insert(0, os.path.join(os.path.dirname(os.path.abspath(__file__)), "../../tools"))
+import n5  # noqa: E402
 
 SIDES = [(96, 96, 4), (48, 48, 4), (24, 24, 2)]
 FACTORS = [(1, 1, 1), (2, 2, 1), (4, 4, 2)]
@@ -42,25 +45,14 @@ def levels():
     return made
 
 
-def write(path, data):
-    os.makedirs(os.path.dirname(path), exist_ok=True)
-    with open(path, "wb") as file:
-        file.write(data)
-
-
 def write_level(folder, voxels, sides):
     attributes = {"dimensions": sides, "blockSize": CELL, "dataType": "uint8", "compression": {"type": "raw"}}
-    write(f"{folder}/attributes.json", json.dumps(attributes).encode())
-    starts = [range(0, side, cell) for side, cell in zip(sides, CELL)]
-    for x, y, z in ((x, y, z) for z in starts[2] for y in starts[1] for x in starts[0]):
-        xs, ys, zs = (range(a, min(a + c, s)) for a, c, s in zip((x, y, z), CELL, sides))
-        block = bytes(voxels[i, j, k] for k in zs for j in ys for i in xs)
-        head = struct.pack(">HHIII", 0, 3, len(xs), len(ys), len(zs))
-        write(f"{folder}/{x // CELL[0]}/{y // CELL[1]}/{z // CELL[2]}", head + block)
+    n5.write(f"{folder}/attributes.json", json.dumps(attributes))
+    n5.write_level(folder, sides, CELL, "uint8", lambda x, y, z: voxels[x, y, z])
 
 
 def main():
-    write("pyramid/setup0/attributes.json", json.dumps({"downsamplingFactors": FACTORS}).encode())
+    n5.write("pyramid/setup0/attributes.json", json.dumps({"downsamplingFactors": FACTORS}))
     for n, voxels in enumerate(levels()):
         write_level(f"pyramid/setup0/timepoint0/s{n}", voxels, SIDES[n])
 

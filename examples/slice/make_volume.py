@@ -6,7 +6,10 @@ that is to hold `volume/`. It needs Python alone, and takes a second or two.
 """
 import math
 import os
-import struct
+import sys
+
+sys.path.insert(0, os.path.join(os.path.dirname(os.path.abspath(__file__)), "../../tools"))
+import n5  # noqa: E402
 
 SIDES = (72, 72, 72)
 CELL = (32, 32, 16)
@@ -25,25 +28,8 @@ def voxel(x, y, z):
     return 6000 + round(wall * (20000 + 480 * z))
 
 
-def cells():
-    counts = [-(-s // c) for s, c in zip(SIDES, CELL)]
-    return [(x, y, z) for z in range(counts[2]) for y in range(counts[1]) for x in range(counts[0])]
-
-
-def write_block(folder, grid):
-    start = [g * c for g, c in zip(grid, CELL)]
-    end = [min(a + c, s) for a, c, s in zip(start, CELL, SIDES)]
-    ranges = [range(a, b) for a, b in zip(start, end)]
-    values = [voxel(x, y, z) for z in ranges[2] for y in ranges[1] for x in ranges[0]]
-    path = os.path.join(folder, *map(str, grid))
-    os.makedirs(os.path.dirname(path), exist_ok=True)
-    with open(path, "wb") as file:
-        file.write(struct.pack(f">HHIII{len(values)}H", 0, 3, *map(len, ranges), *values))
-
-
 def main():
-    for grid in cells():
-        write_block("volume", grid)
+    n5.write_level("volume", SIDES, CELL, "uint16", voxel)
 
 
 if __name__ == "__main__":
