@@ -12,7 +12,7 @@ use Rattle.pin_words.specs.Plan.{Plan}
 use Rattle.pin_words.specs.Layout.{word_count}
 use Rattle.pin_words.specs.Rule.{Ruled, Sat}
 use Rattle.pin_words.specs.Tells.{IsLone}
-use Rattle.pin_words.specs.Tells.{HasSeen}
+use Rattle.pin_words.specs.Tells.{HasSeen, SawOthers}
 use Rattle.pin_words.specs.Ends.{starting, IsBare, joined, Rejoined, Told, Settled, IsHistory}
 use Rattle.pin_words.proofs.Ending.{opens, closes_stores, closes_history}
 use Rattle.pin_rule.specs.declared.made.Made.{Made}
@@ -117,14 +117,15 @@ module _ {S : Type 0} (shows : S → Contents) (m : Made S) where
 
 -- the seat after a join
 pub rejoined : {S : Type 0} (shows : S → Contents) (m m1 m2 : Sat S (Option (Made S))) (e : Doing S (Option (Made S))) (made : Made S) → Rests m made → m1 ≡ (joined m.0 e, m.1) → (m2 ≡ (record m1.0 { stage = Idle }, m1.1)) × Told (plan_of shows m1.0.made) m1.0 m1.0.stage
-    → Rests m2 made × SamePass m.0 m2.0 × Rejoined m.0 e m2.0 × HasSeen (plan_of shows (Some made)) m2.0
-rejoined {S} shows m m1 m2 e made r is = subst (λ (x : Sat S (Option (Made S))). (m2 ≡ (record x.0 { stage = Idle }, x.1)) × Told (plan_of shows x.0.made) x.0 x.0.stage → Rests m2 made × SamePass m.0 m2.0 × Rejoined m.0 e m2.0 × HasSeen (plan_of shows (Some made)) m2.0) (sym is) (λ k. (
+    → Rests m2 made × SamePass m.0 m2.0 × Rejoined m.0 e m2.0 × HasSeen (plan_of shows (Some made)) m2.0 × SawOthers 0 m.0.seen m2.0.seen
+rejoined {S} shows m m1 m2 e made r is = subst (λ (x : Sat S (Option (Made S))). (m2 ≡ (record x.0 { stage = Idle }, x.1)) × Told (plan_of shows x.0.made) x.0 x.0.stage → Rests m2 made × SamePass m.0 m2.0 × Rejoined m.0 e m2.0 × HasSeen (plan_of shows (Some made)) m2.0 × SawOthers 0 m.0.seen m2.0.seen) (sym is) (λ k. (
   (ap (λ (x : Sat _ _). x.0.made) k.0 ∙ r.0, ap (λ (x : Sat _ _). x.0.stage) k.0, ap (λ (x : Sat _ _). x.1) k.0 ∙ (r.2 ∙ ap (λ (x : Sat _ _). carried x.0.lane) (sym k.0))),
   (ap (λ (x : Sat _ _). x.0.number) k.0, ap (λ (x : Sat _ _). x.0.drawn) k.0, ap (λ (x : Sat _ _). length x.0.rises) k.0),
   (
     ap (λ (x : Sat _ _). x.0) k.0 ∙ (λ i. record (joined m.0 e) { stage = sym r.1 i }),
-    subst (λ (l : List _). StartsWith l m.0.seen) (sym (ap (λ (x : Sat _ _). x.0.seen) k.0)) k.1.0,
+    subst (λ (l : List _). StartsWith l m.0.seen) (sym (ap (λ (x : Sat _ _). x.0.seen) k.0)) (k.1.0.0, k.1.0.1),
     subst (λ (l : List _). StartsWith l e.seen) (sym (ap (λ (x : Sat _ _). x.0.seen) k.0)) k.1.1,
   ),
   subst (λ (q : Option (Made S) × Doing S (Option (Made S))). HasSeen (plan_of shows q.0) q.1) (λ i. (r.0 i, ap (λ (x : Sat _ _). x.0) (sym k.0) i)) (record { legal = k.1.2.legal; own = k.1.2.own }),
+  subst (SawOthers 0 m.0.seen) (sym (ap (λ (x : Sat _ _). x.0.seen) k.0)) k.1.0,
 ))

@@ -6,7 +6,7 @@ ghost use Rattle.cell_grid.specs.Pyramid.{cells_of, frame_of, voxels_of};
 ghost use Rattle.pass_roster.specs.Ends.{AllJoined};
 ghost use Rattle.pin_words.specs.declared.doing.Stage.TheVariants.{Idle};
 ghost use Rattle.pin_words.specs.Words.{passes};
-ghost use Rattle.pin_words.specs.Tells.{HasSeen};
+ghost use Rattle.pin_words.specs.Tells.{SawOthers, HasSeen};
 ghost use Rattle.pin_words.specs.Ends.{starting, parent, child, IsBare, Rejoined};
 ghost use Rattle.pin_rule.specs.Plans.{plan_of, IsPlanOf, IsTable};
 ghost use Rattle.pin_rule.specs.Calls.{SamePass, view, plan_at, made_of, IsPassOf, Rests};
@@ -92,7 +92,8 @@ impl<S: Store> Pins<S> {
     }
 
     /// Takes a pass that holds nothing into the first one, which adds its number, its events and its rises to `ended`. What
-    /// either had seen is a beginning of what the first has seen then, which is legal and has all events of its own.
+    /// either had seen is a beginning of what the first has seen then, which is legal and has all events of its own. What it
+    /// hadn't seen before is others' doing.
     pub fn join(&self, pass: &mut Pass<S>, other: Pass<S>)
         requires pass { IsPassOf self.now pass.old }
         requires other { IsPassOf self.now other }
@@ -101,6 +102,7 @@ impl<S: Store> Pins<S> {
         ensures pass { IsPassOf self.now pass.new }
         ensures joined { Rejoined (view pass.old) (view other) (view pass.new) }
         ensures seen { HasSeen (plan_at S.contents self.now) (view pass.new) }
+        ensures foreign { SawOthers (view pass.old).number (view pass.old).seen (view pass.new).seen }
     {
         let other = other.into_seat();
         join_seats(&self.table.shared, &mut pass.seat, other);
@@ -193,6 +195,7 @@ fn join_seats<S: Store>(words: &Words<S>, seat: &mut Place<S>, other: Place<S>)
     ensures rests { Rests seat.new.me words.now.key }
     ensures joined { Rejoined seat.old.me.0 other.me.0 seat.new.me.0 }
     ensures seen { HasSeen (plan_of S.contents (Some words.now.key)) seat.new.me.0 }
+    ensures foreign { SawOthers seat.old.me.0.number seat.old.me.0.seen seat.new.me.0.seen }
 {
     words.join_seat::<Rejoin>(seat, other);
     words.load::<Settle<S>>(seat, 0);

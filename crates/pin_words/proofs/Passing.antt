@@ -10,11 +10,12 @@ use Rattle.atomic_table.specs.Table.{State as Table, step, keeps, Allows, Splits
 use Rattle.atomic_table.proofs.Lists.{at_set, set_here, set_else, set_again, at_longer}
 use Rattle.arr_history.specs.declared.event.Event.{Event}
 use Rattle.arr_history.specs.State.{State}
-use Rattle.arr_history.specs.History.{after, AreLegal}
-use Rattle.pass_roster.specs.History.{StartsWith, longer}
-use Rattle.pass_roster.specs.Roster.{SomeOut}
+use Rattle.arr_history.specs.History.{after, AreLegal, pass_of}
+use Rattle.pass_roster.specs.History.{StartsWith, longer, entries_by}
+use Rattle.pass_roster.specs.Roster.{SomeOut, Roster}
 use Rattle.pass_roster.proofs.Sums.{total_set, total_snoc, at_end, within, same_view}
 use Rattle.pass_roster.proofs.Beginnings.{longer_is}
+use Rattle.pass_roster.proofs.Entries.{none_between}
 use Rattle.pin_words.specs.declared.holding.Held.{Held}
 use Rattle.pin_words.specs.declared.lane.Taken.{Taken}
 use Rattle.pin_words.specs.declared.doing.Ended.{Ended}
@@ -25,7 +26,7 @@ use Rattle.pin_words.specs.Plan.{Plan, shape_of, start_of}
 use Rattle.pin_words.specs.Account.{filled_in, filled, rise, rise_ended, times_in}
 use Rattle.pin_words.specs.Words.{out_of, out, passes, times, times_held, visits, doing_counts, slots_held, Each, HeldOk, Knowns, Parts, IsLone, works, times_left, given_to}
 use Rattle.pin_words.specs.Rule.{Staged, HoldsOk, HoldsNone, Ruled, Sat}
-use Rattle.pin_words.specs.Tells.{HasSeen}
+use Rattle.pin_words.specs.Tells.{SawOthers, HasSeen}
 use Rattle.pin_words.specs.Ends.{parent, child, ended_as, IsBare, joined, spent_view, trail_of, Told, settled}
 use Rattle.pin_words.proofs.Parts.{cells_stay, slots_stay}
 use Rattle.pin_words.proofs.Frames.{frames_stay}
@@ -183,11 +184,10 @@ module _ {S M : Type 0} (p : Plan S M) where
     log = r.log;
     drawn = r.drawn;
     ended = r.ended ++ ended_as e ∷ [];
-    roster = roster_joins passes r.log r.drawn r.ended s.views id v other e b sp (ended_as e) r.roster at lv zero_is apart_is at' le
-        record { number = refl; seen = refl; mine = refl; ended = refl; drawn = refl; out = refl; ended_number = refl; ended_mine = refl; spent = refl };
+    roster = roster_then;
     legal = r.legal;
     holds = λ j f t o. ⊎_elim (λ (q : (j ≡ other) × (sp ≡ f)). let y : out sp ≡ out f = ap out q.1 in let x : out sp ≡ 0 = refl in let o' : out f ≡ 1 = o in absurd (omega arith))
-        (λ (q : (j ≢ other) × (get_elem? (set s.views id b) j ≡ some f)). ⊎_elim (λ (k : (j ≡ id) × (b ≡ f)). subst (HoldsOk p (now p s r)) k.1 (holds_as p (now p s r) v b refl refl refl refl refl refl refl (both.1, both.2) ok))
+        (λ (q : (j ≢ other) × (get_elem? (set s.views id b) j ≡ some f)). ⊎_elim (λ (k : (j ≡ id) × (b ≡ f)). subst (HoldsOk p (now p s r)) k.1 (holds_as p (now p s r) v b refl refl refl refl refl refl refl (others, both.2) ok))
         (λ (k : (j ≢ id) × (get_elem? s.views j ≡ some f)). r.holds j f k.1 o) (at_set s.views id j b f q.1)) (at_set (set s.views id b) other j sp f t);
     spent = λ j f t o. ⊎_elim (λ (q : (j ≡ other) × (sp ≡ f)). subst (HoldsNone p) q.1 record { pins = refl; claims = refl; leaving = refl; slots = refl; lane = refl; rises = refl })
         (λ (q : (j ≢ other) × (get_elem? (set s.views id b) j ≡ some f)). ⊎_elim (λ (k : (j ≡ id) × (b ≡ f)). let y : out b ≡ out f = ap out k.1 in let x : out b ≡ 1 = refl in let o' : out f ≡ 0 = o in absurd (omega arith))
@@ -236,6 +236,15 @@ module _ {S M : Type 0} (p : Plan S M) where
       here : get_elem? (set (set s.views id b) other sp) id ≡ some b
       here = set_else (set s.views id b) other id sp (λ q. apart_is (sym q)) ∙ set_here s.views id b (within s.views id v at)
 
+      roster_then : Roster passes r.log r.drawn (r.ended ++ ended_as e ∷ []) (set (set s.views id b) other sp)
+      roster_then = roster_joins passes r.log r.drawn r.ended s.views id v other e b sp (ended_as e) r.roster at lv zero_is apart_is at' le
+          record { number = refl; seen = refl; mine = refl; ended = refl; drawn = refl; out = refl; ended_number = refl; ended_mine = refl; spent = refl }
+
+      -- what the pass sees now and hadn't seen is others' doing: it had seen all that it made
+      others : SawOthers 0 v.seen (longer v.seen e.seen)
+      others = (both.1.0, both.1.1, none_between pass_of 0 v.seen both.1.0 (ap (entries_by pass_of 0) (sym both.1.1)
+          ∙ subst (λ (k : ℕ). entries_by pass_of k (longer v.seen e.seen) ≡ entries_by pass_of k v.seen) zero_is ((roster_then.each id b here refl).all_seen ∙ sym (r.roster.each id v at lv).all_seen)))
+
       first : Parts p r.log r.ended s.words s.homes (set s.views id b)
       first = parts_as r.log r.ended r.ended s.words s.homes s.views id v b r.parts at (λ c. ap (λ (st : Stage). times c v.pins + visits c st) (sym idle)) (λ c. refl) refl (inr refl) refl refl (knowns_stay p s r id v b at refl refl)
 
@@ -262,7 +271,7 @@ module _ {S M : Type 0} (p : Plan S M) where
       ok : HoldsOk p (now p s r) d
       ok = r.holds id d at lv
 
-      both : StartsWith d.seen a × StartsWith d.seen b
+      both : SawOthers 0 a d.seen × StartsWith d.seen b
       both = subst (Staged d.seen p.cells) is ok.stage
 
       known : HasSeen p d

@@ -15,7 +15,7 @@ use Rattle.pin_words.specs.Standing.{puts_under, gets_under}
 use Rattle.pin_words.specs.Account.{lives, times_saved, rise, rise_ended, InLane, Stood}
 use Rattle.pin_words.specs.Words.{passes, given_to}
 use Rattle.pin_words.specs.Rule.{Sat}
-use Rattle.pin_words.specs.Tells.{HasSeen}
+use Rattle.pin_words.specs.Tells.{SawOthers, HasSeen}
 
 module _ {S M : Type 0} where
   -- a view that has seen, made and holds nothing
@@ -77,7 +77,7 @@ module _ {S M : Type 0} where
 
 module _ {S M : Type 0} (p : Plan S M) where
   abbrev pub Told : Doing S M → Stage → Type 0
-  Told d (Joining a b) = StartsWith d.seen a × StartsWith d.seen b × HasSeen p d
+  Told d (Joining a b) = SawOthers 0 a d.seen × StartsWith d.seen b × HasSeen p d
   Told d other = Unit {0}
 
 module _ {S M : Type 0} (plan : M → Plan S M) where

@@ -19,6 +19,7 @@ use Rattle.pin_words.specs.declared.doing.Stage.TheVariants.{Spent, Idle, Visiti
 use Rattle.pin_words.specs.Plan.{Plan, shape_of, start_of}
 use Rattle.pin_words.specs.Account.{times_in, filled}
 use Rattle.pin_words.specs.Words.{out, passes, times, times_left, Each, Parts}
+use Rattle.pin_words.specs.Tells.{SawOthers}
 
 -- The pin is on a cell that is live in its slot, and marked where the pin is.
 abbrev pub PinOk : State → ℕ → Pin → Type 0
@@ -32,11 +33,12 @@ ClaimOk w cells k c = (c < cells) × (w.cells c ≡ cell.Loading k)
 abbrev pub LeftOk : State → State → ℕ → ℕ → Left → Type 0
 LeftOk start w cells k q = (q.cell < cells) × (w.cells q.cell ≡ cell.Leaving k q.slot q.marked) × ((after start q.at).arrays q.cell ≡ w.arrays q.cell)
 
+-- What is so of a pass in the midst of a call. The first alone joins others, and its number is 0.
 abbrev pub Staged : List Event → ℕ → Stage → Type 0
 Staged seen cells Spent = Unit {0}
 Staged seen cells Idle = Unit {0}
 Staged seen cells (Visiting c) = c < cells
-Staged seen cells (Joining a b) = StartsWith seen a × StartsWith seen b
+Staged seen cells (Joining a b) = SawOthers 0 a seen × StartsWith seen b
 
 module _ {S M : Type 0} (p : Plan S M) where
   -- What a pass holds is so.

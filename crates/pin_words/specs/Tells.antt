@@ -14,6 +14,10 @@ pub use Rattle.pin_words.specs.Words.{IsLone}
 use Rattle.pin_words.specs.Words.{times}
 use Rattle.pin_words.specs.Finding.{has_claim, has_left}
 
+-- Between two beginnings of the history that the pass k has seen, all is others' doing.
+abbrev pub SawOthers : ℕ → List Event → List Event → Type 0
+SawOthers k seen more = (between : List Event) × (more ≡ seen ++ between) × (entries_by pass_of k between ≡ [])
+
 module _ {S M : Type 0} where
   -- What the pass d has seen after a step, but for the step's own event: what it had seen, and what others did, of which a lone pass finds nothing.
   pub record SawTo (d : Doing S M) (seen : List Event) : Type 0 where

@@ -1,4 +1,5 @@
-use Rattle.std.proofs.Common.{rules, refl, ap, ◌∙◌, Some, None}
+use Rattle.std.proofs.Common.{rules, refl, sym, ap, ◌∙◌, subst, Some, None}
+use Rattle.pin_words.specs.Tells.{SawOthers}
 use Rattle.pin_words.proofs.Passing.{joins_pass, settles_pass}
 use Rattle.pin_rule.specs.Plans.{plan_of}
 use Rattle.pin_rule.specs.Calls.{carried}
@@ -22,3 +23,6 @@ returns-clause-joined g c = (rejoined g.S.Store.contents c.args.seat.now.me c.jo
 
 pub returns-clause-seen : goal.returns-clause-seen
 returns-clause-seen g c = (rejoined g.S.Store.contents c.args.seat.now.me c.join_seat.new.seat.me c.load.new.seat.me c.args.other.me.0 c.args.words.now.key c.requires.rests.0 c.join_seat.ensures.2 c.load.ensures.2).3
+
+pub returns-clause-foreign : goal.returns-clause-foreign
+returns-clause-foreign g c = subst (λ k. SawOthers k c.args.seat.now.me.0.seen c.load.new.seat.me.0.seen) (sym c.requires.first) (rejoined g.S.Store.contents c.args.seat.now.me c.join_seat.new.seat.me c.load.new.seat.me c.args.other.me.0 c.args.words.now.key c.requires.rests.0 c.join_seat.ensures.2 c.load.ensures.2).4
