@@ -1,10 +1,10 @@
 // The steps on a cell's word that load it or turn it out, over a seat.
-ghost use Rattle.std.specs.Prelude.{◌≡◌, ℕ, ◌+◌, ◌*◌, ◌<◌, ◌≤◌, true, Some, length, MatchResult};
+ghost use Rattle.std.specs.Prelude.{◌≡◌, ℕ, ◌+◌, ◌*◌, ◌^◌, ◌<◌, ◌≤◌, true, Some, length, MatchResult};
 ghost use Rattle.cell_grid.specs.Pyramid.{cells_of};
 ghost use Rattle.pin_words.specs.declared.lane.Taken.{Taken as TakenLane};
 ghost use Rattle.pin_words.specs.Plan.{lane_of};
 ghost use Rattle.pin_words.specs.Account.{filled};
-ghost use Rattle.pin_words.specs.Layout.{bit, live_word};
+ghost use Rattle.pin_words.specs.Layout.{loading_word, live_word, leaving_word};
 ghost use Rattle.pin_words.specs.Finding.{has_claim};
 ghost use Rattle.pin_words.specs.Cells.{IsClaimed, IsTaken, IsDropped, IsPublished, IsClosed, IsBusy, IsGone, IsBack};
 ghost use Rattle.pin_rule.specs.Plans.{plan_of, IsPlanOf};
@@ -60,7 +60,7 @@ pub(crate) fn publish_cell<S: Store>(
     requires seat { (seat.old.table_id ≡ words.now.table_id) × (1 + cell < words.now.table_id.words) }
     requires rests { Rests seat.old.me words.now.key }
     requires made { IsPlanOf words.now.key }
-    requires number { number ≡ 33554432 + 1 + slot * 4294967296 }
+    requires number { number ≡ loading_word + 1 + slot * 2 ^ 32 }
     requires room { length seat.old.me.0.pins < 64 }
     requires claim { has_claim cell seat.old.me.0 ≡ true }
     requires slot { IsMySlot seat.old.me.0 slot (Some cell) }
@@ -84,7 +84,7 @@ pub(crate) fn close_cell<S: Store>(
     requires seat { (seat.old.table_id ≡ words.now.table_id) × (1 + cell < words.now.table_id.words) }
     requires rests { Rests seat.old.me words.now.key }
     requires cell { cell < cells_of words.now.key.levels.value }
-    requires numbers { (old ≡ live_word slot marked) × (new ≡ 100663296 + 16777216 * bit marked + 4294967296 * slot) }
+    requires numbers { (old ≡ live_word slot marked) × (new ≡ leaving_word slot marked) }
     ensures seat { (seat.new.table_id ≡ seat.old.table_id) × (seat.new.id ≡ seat.old.id) × SamePass seat.old.me.0 seat.new.me.0 }
     ensures rests { Rests seat.new.me words.now.key }
     ensures done { MatchResult result (λ _. IsClosed (plan_of S.contents (Some words.now.key)) seat.old.me.0 cell slot marked seat.new.me.0) (λ n. IsBusy (plan_of S.contents (Some words.now.key)) seat.old.me.0 cell slot marked n seat.new.me.0) }
@@ -108,7 +108,7 @@ pub(crate) fn go_cell<S: Store>(
     requires seat { (seat.old.table_id ≡ words.now.table_id) × (1 + cell < words.now.table_id.words) }
     requires rests { Rests seat.old.me words.now.key }
     requires made { IsPlanOf words.now.key }
-    requires number { number ≡ 100663296 + 16777216 * bit marked + 4294967296 * slot }
+    requires number { number ≡ leaving_word slot marked }
     requires leaving { IsMyLeaving seat.old.me.0 cell slot marked }
     requires lane { marked ≡ true → (o : TakenLane _) × (seat.old.me.0.lane ≡ Some o) × (lane_of (plan_of S.contents (Some words.now.key)) cell ≡ o.lane) }
     ensures seat { (seat.new.table_id ≡ seat.old.table_id) × (seat.new.id ≡ seat.old.id) × SamePass seat.old.me.0 seat.new.me.0 }

@@ -1,5 +1,5 @@
 -- What the steps of slots, claims, fills and closings tell.
-use Rattle.std.specs.Prelude.{◌≡◌, ◌≢◌, ◌⊎◌, ℕ, zero, suc, ◌+◌, ◌*◌, ◌<◌, ◌≤◌, Bool, true, false, IsTrue, List, [], ◌∷◌, ◌++◌, length, take, Option, Some, None, slice_index}
+use Rattle.std.specs.Prelude.{◌≡◌, ◌≢◌, ◌⊎◌, ℕ, zero, suc, ◌+◌, ◌*◌, ◌^◌, ◌<◌, ◌≤◌, Bool, true, false, IsTrue, List, [], ◌∷◌, ◌++◌, length, take, Option, Some, None, slice_index}
 use Rattle.atomic_table.specs.Table.{Step}
 use Rattle.arr_history.specs.declared.event.Event.{Event}
 use Rattle.arr_history.specs.declared.event.Event.TheVariants as event
@@ -13,7 +13,7 @@ use Rattle.pin_words.specs.declared.doing.Doing.{Doing}
 use Rattle.pin_words.specs.declared.doing.Try.{Try}
 use Rattle.pin_words.specs.Plan.{Plan, is_told, is_void, start_of}
 use Rattle.pin_words.specs.Account.{WasMarked, due}
-use Rattle.pin_words.specs.Layout.{live_word, slot_at, frame_at}
+use Rattle.pin_words.specs.Layout.{loading_word, live_word, slot_at, frame_at}
 use Rattle.pin_words.specs.Rule.{Sat}
 use Rattle.pin_words.specs.Finding.{pin, has_held, held_of, helds_without, left_of, lefts_without, claims_without}
 use Rattle.pin_words.specs.Tells.{IsLone, Adds, Sees, ShowsCell, tried}
@@ -144,7 +144,7 @@ module _ {S M : Type 0} (plan : M → Plan S M) where
   drops st m n m' = (c : ℕ) → st.word ≡ 1 + c → (m'.1 ≡ m.1) × IsDropped (plan m.0.made) m.0 c m'.0
 
   abbrev pub publishes : Step (Option S) → Sat S M → ℕ → Sat S M → Type 0
-  publishes st m n m' = (c s : ℕ) → st.word ≡ 1 + c → st.first ≡ 33554432 + 1 + s * 4294967296 → (m'.1 ≡ m.1) × IsPublished (plan m.0.made) m.0 c s m'.0
+  publishes st m n m' = (c s : ℕ) → st.word ≡ 1 + c → st.first ≡ loading_word + 1 + s * 2 ^ 32 → (m'.1 ≡ m.1) × IsPublished (plan m.0.made) m.0 c s m'.0
 
   abbrev pub closes : Step (Option S) → Sat S M → ℕ → Sat S M → Type 0
   closes st m n m' = (c s : ℕ) (mark : Bool) → st.word ≡ 1 + c → st.first ≡ live_word s mark

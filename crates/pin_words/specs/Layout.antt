@@ -1,5 +1,5 @@
 -- Where the words of a table lie: word 0, which is 0, one word for each cell, one for each slot, one for each lane, and the frames of the slots.
-use Rattle.std.specs.Prelude.{ℕ, ◌+◌, ◌*◌, Bool, true, false}
+use Rattle.std.specs.Prelude.{ℕ, ◌+◌, ◌*◌, ◌^◌, Bool, true, false}
 use Rattle.arr_history.specs.declared.cell_state.CellState.{CellState}
 use Rattle.arr_history.specs.declared.cell_state.CellState.TheVariants as cell
 use Rattle.pin_words.specs.Plan.{Plan}
@@ -24,13 +24,20 @@ abbrev pub bit : Bool → ℕ
 bit true = 1
 bit false = 0
 
--- The word of a cell in a state, with count 0: bit 24 is the mark, bits 25 and 26 are the state, and the slot begins at bit 32.
+-- The word of a cell that is being loaded, of a live and of a leaving one, with count 0: bit 24 is the mark, bits 25 and 26 are the state,
+-- and the slot begins at bit 32.
+abbrev pub loading_word : ℕ
+loading_word = 2 ^ 25
+
+abbrev pub live_word : ℕ → Bool → ℕ
+live_word slot mark = 2 ^ 26 + 2 ^ 24 * bit mark + 2 ^ 32 * slot
+
+abbrev pub leaving_word : ℕ → Bool → ℕ
+leaving_word slot mark = 3 * 2 ^ 25 + 2 ^ 24 * bit mark + 2 ^ 32 * slot
+
+-- the word of a cell in a state, with count 0
 abbrev pub face : CellState → ℕ
 face cell.Absent = 0
-face (cell.Loading k) = 33554432
-face (cell.Live slot mark) = 67108864 + 16777216 * bit mark + 4294967296 * slot
-face (cell.Leaving k slot mark) = 100663296 + 16777216 * bit mark + 4294967296 * slot
-
--- the word of a live cell with no pin
-abbrev pub live_word : ℕ → Bool → ℕ
-live_word slot mark = 67108864 + 16777216 * bit mark + 4294967296 * slot
+face (cell.Loading k) = loading_word
+face (cell.Live slot mark) = live_word slot mark
+face (cell.Leaving k slot mark) = leaving_word slot mark

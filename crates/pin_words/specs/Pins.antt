@@ -1,5 +1,5 @@
 -- What the steps of pins tell: the visit of a cell and the way back, and what is done through a pin.
-use Rattle.std.specs.Prelude.{◌≡◌, ℕ, ◌+◌, ◌/◌, ◌%◌, ◌<◌, true, false, ◌∷◌, Option}
+use Rattle.std.specs.Prelude.{◌≡◌, ℕ, ◌+◌, ◌/◌, ◌%◌, ◌^◌, ◌<◌, true, false, ◌∷◌, Option}
 use Rattle.atomic_table.specs.Table.{Step}
 use Rattle.arr_history.specs.declared.event.Event.TheVariants as event
 use Rattle.arr_history.specs.declared.cell_state.CellState.{CellState}
@@ -25,7 +25,7 @@ seen_of (cell.Leaving k slot mark) = look.Leaving
 
 -- a word shows a live cell
 abbrev pub ShowsLive : ℕ → Type 0
-ShowsLive n = (n / 33554432) % 4 ≡ 2
+ShowsLive n = (n / 2 ^ 25) % 4 ≡ 2
 
 module _ {S M : Type 0} (p : Plan S M) where
   -- the cell was live in the slot s, and has one more pin of the pass
@@ -56,7 +56,7 @@ module _ {S M : Type 0} (p : Plan S M) where
 -- The same as steps of the table, by what the table was told.
 module _ {S M : Type 0} (plan : M → Plan S M) where
   abbrev pub visited : Step (Option S) → Sat S M → ℕ → Sat S M → Type 0
-  visited st m n m' = (m'.1 ≡ m.1) × ((c : ℕ) → st.word ≡ 1 + c → (ShowsLive n → IsPinned (plan m.0.made) m.0 c (n / 4294967296) m'.0)
+  visited st m n m' = (m'.1 ≡ m.1) × ((c : ℕ) → st.word ≡ 1 + c → (ShowsLive n → IsPinned (plan m.0.made) m.0 c (n / 2 ^ 32) m'.0)
       × ((ShowsLive n → ⊥) → IsVisiting (plan m.0.made) m.0 c n m'.0))
 
   abbrev pub went_back : Step (Option S) → Sat S M → ℕ → Sat S M → Type 0
