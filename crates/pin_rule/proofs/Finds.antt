@@ -1,10 +1,11 @@
 -- What a pass holds is found by its number.
-use Rattle.std.proofs.Common.{◌≡◌, ℕ, ◌==◌, ◌&&◌, cond, Bool, true, false, true≢false, List, [], ◌∷◌, None, sym, refl, subst}
+use Rattle.std.proofs.Common.{◌≡◌, ℕ, ◌==◌, ◌&&◌, cond, Bool, true, false, true≢false, List, [], ◌∷◌, Option, None, sym, refl, ap, subst, eq-eqb}
 use Rattle.std.proofs.lemmas.Bool.{eqb-true}
 use Rattle.pin_words.specs.declared.holding.Pin.{Pin}
 use Rattle.pin_words.specs.declared.holding.Held.{Held}
 use Rattle.pin_words.specs.declared.holding.Left.{Left}
 use Rattle.pin_words.specs.declared.doing.Doing.{Doing}
+use Rattle.pin_words.specs.Cells.{held}
 use Rattle.pin_words.specs.Finding.{has_by, find_by, drop_by, Picks, pin, same_mark, same_pin, has_pin, pins_without, has_claim, claims_without, has_held, held_of, helds_without, has_left, left_of, lefts_without}
 
 picks_by : {A : Type 0} (f : A → Bool) (other : A) (xs : List A) → has_by f xs ≡ true → Picks (find_by f other xs) (drop_by f xs) xs
@@ -54,6 +55,20 @@ module _ {S M : Type 0} where
   -- the same, by the slot's own number
   pub picks_held_own : (s : ℕ) (d : Doing S M) → has_held s d ≡ true → Picks (held_of s d) (helds_without (held_of s d).slot d) d.slots
   picks_held_own s d h = subst (λ (t : ℕ). Picks (held_of s d) (helds_without t d) d.slots) (sym (held_slot s d h)) (picks_held s d h)
+
+  -- the slot that a pass has put in front
+  pub first_held : (s : ℕ) (filled : Option ℕ) (words : List ℕ) (rest : List Held) (d : Doing S M) → d.slots ≡ held s filled words ∷ rest → (has_held s d ≡ true) × ((held_of s d).filled ≡ filled)
+  first_held s filled words rest d is = subst (λ (hs : List Held). (has_by own hs ≡ true) × ((find_by own none_yet hs).filled ≡ filled)) (sym is)
+      (ap (λ (b : Bool). cond b true (has_by own rest)) same, ap (λ (b : Bool). (cond b (held s filled words) (find_by own none_yet rest)).filled) same)
+    where
+      own : Held → Bool
+      own h = h.slot == s
+
+      none_yet : Held
+      none_yet = held s None []
+
+      same : (s == s) ≡ true
+      same = eq-eqb s s refl
 
   pub picks_left : (c : ℕ) (d : Doing S M) → has_left c d ≡ true → Picks (left_of c d) (lefts_without c d) d.leaving
   picks_left c d h = picks_by (λ (q : Left). q.cell == c) (record { cell = c; slot = 0; marked = false; at = [] }) d.leaving h

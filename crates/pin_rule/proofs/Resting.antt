@@ -1,5 +1,5 @@
 -- What lies at rest stays so, and what a table was told makes a plan.
-use Rattle.std.proofs.Common.{◌≡◌, ℕ, zero, suc, ◌≤◌, Bool, true, false, true≢false, List, [], ◌∷◌, ◌++◌, length, take, drop, Option, Some, None, sym, refl, ap, ◌∙◌, subst, arith}
+use Rattle.std.proofs.Common.{◌≡◌, ℕ, zero, suc, ◌≤◌, Bool, true, false, List, [], ◌∷◌, ◌++◌, length, take, drop, Option, Some, None, sym, refl, ap, ◌∙◌, subst, arith}
 use Rattle.std.specs.Option.{IsSome}
 use Rattle.cell_store.specs.Store.{Contents}
 use Rattle.pin_words.specs.declared.lane.Change.{Change}
@@ -11,7 +11,7 @@ use Rattle.pin_words.specs.Cells.{noted}
 use Rattle.pin_rule.specs.declared.made.Made.{Made}
 use Rattle.pin_rule.specs.Plans.{plan_of, IsPlanOf}
 use Rattle.pin_rule.specs.Calls.{carried, Rests, SamePass, HasRoom}
-use Rattle.pin_words.specs.Ends.{child}
+use Rattle.pin_words.specs.Ends.{starting, child}
 use Rattle.pin_words.proofs.Passing.{replicate_long}
 
 module _ {S : Type 0} where
@@ -27,6 +27,14 @@ module _ {S : Type 0} where
     ap (λ (x : Doing S (Option (Made S))). x.drawn) is ∙ ap (λ (q : ℕ × ℕ × ℕ). q.1) same,
     ap (λ (x : Doing S (Option (Made S))). length x.rises) is ∙ ap (λ (q : ℕ × ℕ × ℕ). q.2) same,
   )
+
+  -- the first pass of a table that was just made is one of the table, and starts
+  pub first_pass : {T : Type 0} (shows : S → Contents) (a b : T) (m : Sat S (Option (Made S))) (made told : Made S) (room : ℕ) → a ≡ b → m ≡ (starting (plan_of shows (Some told)), []) → made ≡ told → length told.stores.value.items ≤ room
+      → ((a ≡ b) × Rests m made × HasRoom m.0 room made × (length m.0.rises ≡ length made.stores.value.items)) × (m.0 ≡ starting (plan_of shows (Some made)))
+  first_pass shows a b m made told room same m_is is fits =
+      subst (λ (k : Made S). ((a ≡ b) × Rests m k × HasRoom m.0 room k × (length m.0.rises ≡ length k.stores.value.items)) × (m.0 ≡ starting (plan_of shows (Some k)))) (sym is)
+      (subst (λ (x : Sat S (Option (Made S))). ((a ≡ b) × Rests x told × HasRoom x.0 room told × (length x.0.rises ≡ length told.stores.value.items)) × (x.0 ≡ starting (plan_of shows (Some told)))) (sym m_is)
+      ((same, (refl, refl, refl), (λ _. (omega arith, fits)), replicate_long (length told.stores.value.items)), refl))
 
   pub same_trans : (a b c : Doing S (Option (Made S))) → SamePass a b → SamePass b c → SamePass a c
   same_trans a b c x y = (y.0 ∙ x.0, y.1 ∙ x.1, y.2 ∙ x.2)

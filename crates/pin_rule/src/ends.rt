@@ -51,27 +51,7 @@ impl<S: Store> Pins<S> {
         let Ok(keys) = keys.copy() else {
             return Err(Unmade { stores });
         };
-        let made = Made {
-            levels: Snapshot::of(&geometry),
-            keys: Snapshot::of(&keys),
-            slots,
-            stores: Snapshot::of(&stores),
-        };
-        let cells = geometry.cells() as usize;
-        let frame = geometry.frame() as usize;
-        let lanes = stores.len();
-        let (table, seat, list) = open_table(alloc, cells, lanes, frame, &made, stores)?;
-        let pins = Pins {
-            alloc,
-            geometry,
-            keys,
-            cells,
-            slots: slots as usize,
-            lanes,
-            frame,
-            table,
-        };
-        Ok((pins, Pass { seat, list }))
+        make(alloc, geometry, keys, slots, stores)
     }
 
     /// Draws the next number for a new pass, which has seen as much as the first and holds nothing. At most 64 passes are
@@ -106,6 +86,57 @@ impl<S: Store> Pins<S> {
     {
         let other = other.into_seat();
         join_seats(&self.table.shared, &mut pass.seat, other);
+    }
+}
+
+// A table with a geometry and keys of its own, and its first pass.
+fn make<S: Store>(
+    alloc: Global,
+    geometry: Geometry,
+    keys: Keys,
+    slots: u32,
+    stores: Vec<S>,
+) -> Result<(Pins<S>, Pass<S>), Unmade<S>>
+    requires slots { (2 ≤ slots) × (slots ≤ 4096) }
+    requires keys { keys.levels ≡ geometry }
+    requires frames { slots * frame_of geometry ≤ 2 ^ 24 }
+    requires stores { (0 < length stores.items) × (length stores.items ≤ 16) }
+    ensures pass { IfOk result (λ r. IsPassOf r.0 r.1 × (view r.1 ≡ starting (plan_at S.contents r.0))) }
+    ensures made { IfOk result (λ r. ((made_of r.0).levels.value ≡ geometry) × ((made_of r.0).keys.value ≡ keys) × ((made_of r.0).slots ≡ slots) × ((made_of r.0).stores.value.items ≡ stores.items)) }
+    ensures unmade { IfErr result (λ u. u.stores.items ≡ stores.items) }
+{
+    let made = tell(&geometry, &keys, slots, &stores);
+    let cells = geometry.cells() as usize;
+    let frame = geometry.frame() as usize;
+    let lanes = stores.len();
+    let (table, seat, list) = open_table(alloc, cells, lanes, frame, &made, stores)?;
+    let pins = Pins {
+        alloc,
+        geometry,
+        keys,
+        cells,
+        slots: slots as usize,
+        lanes,
+        frame,
+        table,
+    };
+    Ok((pins, Pass { seat, list }))
+}
+
+// What a table is told when it is made.
+fn tell<S>(geometry: &Geometry, keys: &Keys, slots: u32, stores: &Vec<S>) -> Made<S>
+    requires slots { (2 ≤ slots) × (slots ≤ 4096) }
+    requires keys { keys.now.levels ≡ geometry.now }
+    requires stores { (0 < length stores.now.items) × (length stores.now.items ≤ 16) }
+    ensures plan { IsPlanOf result }
+    ensures same { (result.levels.value ≡ geometry.now) × (result.keys.value ≡ keys.now) × (result.slots ≡ slots) × (result.stores.value.items ≡ stores.now.items) }
+{
+    let _limits = (geometry.cells(), geometry.frame()); // read for what their contracts tell the proof
+    Made {
+        levels: Snapshot::of(geometry),
+        keys: Snapshot::of(keys),
+        slots,
+        stores: Snapshot::of(stores),
     }
 }
 

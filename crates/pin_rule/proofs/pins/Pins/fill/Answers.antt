@@ -1,11 +1,14 @@
-use Rattle.std.proofs.Common.{◌≡◌, ℕ, suc, ◌+◌, ◌*◌, ◌<◌, ◌≤◌, Some, length, sym, subst, arith, mul-le-mul_right, suc-mul}
+use Rattle.std.proofs.Common.{◌≡◌, ℕ, suc, ◌+◌, ◌*◌, ◌<◌, ◌≤◌, Some, length, sym, ap, subst, arith, mul-le-mul_right, suc-mul}
 use Rattle.cell_grid.specs.Pyramid.{cells_of, frame_of}
 use Rattle.cell_grid.proofs.FrameLemmas.{frame_bounds}
 use Rattle.pin_words.specs.declared.lane.Taken.{Taken}
 use Rattle.pin_words.specs.Plan.{lane_of}
 use Rattle.pin_words.specs.Cells.{IsDue, IsFilled}
+use Rattle.pin_words.specs.declared.doing.Doing.{Doing}
+use Rattle.pin_words.specs.Finding.{helds_without}
 use Rattle.pin_rule.specs.Parts.{ClaimedCell, OwnSlot}
 use Rattle.pin_rule.specs.Calls.{view, plan_at}
+use Rattle.pin_rule.proofs.Finds.{first_held}
 use Rattle.pin_rule.proofs.pins.Pins.fill.Goals as goal
 
 -- the frame of a slot lies below the end of all frames
@@ -30,3 +33,10 @@ fill_frame-requires-clause-lane g c = let p = plan_at g.S.Store.contents c.args.
 
 pub returns-clause-done : goal.returns-clause-done
 returns-clause-done g c = subst (λ (x : ClaimedCell × OwnSlot). IsFilled (view c.args.pass.now) x.0.cell x.1.slot c.args.values.now c.fill_frame.new.seat.me.0) (λ i. (c.c.view_is i, c.s.view_is i)) c.fill_frame.ensures.done
+
+pub returns-clause-slot : goal.returns-clause-slot
+returns-clause-slot g c = (
+  ap (λ (x : OwnSlot). x.slot) c.s.view_is,
+  ap (λ (x : ClaimedCell). Some x.cell) c.c.view_is,
+  first_held c.s.inside.slot (Some c.c.inside.cell) c.args.values.now (helds_without c.s.inside.slot (view c.args.pass.now)) c.fill_frame.new.seat.me.0 (ap (λ (d : Doing _ _). d.slots) c.fill_frame.ensures.done.2),
+)
