@@ -1,5 +1,5 @@
 -- Going on is one step after another.
-use Rattle.std.proofs.Common.{◌≡◌, ◌↔◌, ℕ, zero, suc, ◌+◌, ◌≤◌, ◌<◌, None, List, [], ◌∷◌, ◌++◌, length, append_assoc, sym, refl, ap, ◌∙◌, subst, arith}
+use Rattle.std.proofs.Common.{◌≡◌, ◌↔◌, ℕ, ◌+◌, ◌≤◌, None, List, [], ◌∷◌, ◌++◌, length, append_assoc, sym, refl, ap, ◌∙◌, subst, arith}
 use Rattle.std.proofs.lemmas.List.{append-nil}
 use Rattle.std.specs.Prelude.{slice_index_or}
 use Rattle.arr_history.specs.declared.event.Event.{Event}
@@ -8,11 +8,10 @@ use Rattle.pass_roster.specs.History.{entries_by}
 use Rattle.pass_roster.proofs.Entries.{by_append, by_one}
 use Rattle.pin_words.specs.declared.doing.Doing.{Doing}
 use Rattle.pin_words.specs.declared.doing.Ended.{Ended}
-use Rattle.pin_words.specs.declared.doing.Try.{Try}
 use Rattle.pin_words.specs.Plan.{Plan, shape_of, start_of}
 use Rattle.pin_words.specs.Account.{rise}
 use Rattle.pin_words.specs.Ends.{IsBare}
-use Rattle.pin_words.specs.Tells.{IsLone, SawTo, Adds, Sees}
+use Rattle.pin_words.specs.Tells.{IsLone, Adds, Sees}
 use Rattle.pin_rule.specs.Going.{Goes, Alike}
 use Rattle.pin_rule.specs.Hands.{Hands}
 

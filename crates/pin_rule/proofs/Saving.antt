@@ -1,26 +1,23 @@
 -- A store into which a marked cell was put, or couldn't be put, may come home.
-use Rattle.std.proofs.Common.{◌≡◌, ◌≢◌, ◌⊎◌, inl, inr, ◌∙◌, ℕ, ◌+◌, ◌%◌, ◌<◌, ◌≤◌, ◌==◌, eq-eqb, cond, Bool, true, false, true≢false, List, [], ◌∷◌, Option, Some, None, refl, sym, ap, subst, arith}
+use Rattle.std.proofs.Common.{◌≡◌, ◌≢◌, ◌⊎◌, inl, inr, ◌∙◌, ℕ, ◌==◌, eq-eqb, cond, Bool, true, false, true≢false, List, [], ◌∷◌, Option, Some, None, refl, sym, ap, subst, arith}
 use Rattle.std.specs.Prelude.{IsTrue, is_none}
 use Rattle.std.proofs.lemmas.Bool.{eqb-true}
-use mathlib.Core.Option.{some}
-use lib.ListN.{get_elem?}
 use Rattle.cell_store.specs.Store.{Contents, held_of}
 use Rattle.arr_history.specs.declared.event.Event.{Event}
 use Rattle.arr_history.specs.History.{after}
 use Rattle.stood_arrays.specs.Opening.{store_in}
 use Rattle.pin_words.specs.declared.holding.Left.{Left}
-use Rattle.pin_words.specs.declared.lane.Taken.{Taken}
 use Rattle.pin_words.specs.declared.doing.Doing.{Doing}
 use Rattle.pin_words.specs.Plan.{Plan, shown, is_told, is_void, start_of}
-use Rattle.pin_words.specs.Standing.{StandsFor, IsVoid, puts_under, gets_under}
+use Rattle.pin_words.specs.Standing.{StandsFor, IsVoid}
 use Rattle.pin_words.specs.Account.{one, has_mark, WasMarked, InLane, Stood, due, Untouched, Returns}
 use Rattle.pin_words.specs.Words.{Each}
-use Rattle.pin_words.specs.Cells.{left, change, noted, IsGone}
-use Rattle.pin_words.specs.Lanes.{taken, TakesLane}
+use Rattle.pin_words.specs.Cells.{change, noted, IsGone}
+use Rattle.pin_words.specs.Lanes.{taken}
 use Rattle.pin_words.proofs.Opened.{store_shown}
 use Rattle.pin_rule.specs.declared.made.Made.{Made}
 use Rattle.pin_rule.specs.Calls.{MayReturn}
-use Rattle.pin_rule.specs.Saving.{HasPut, HasTriedPut}
+use Rattle.pin_rule.specs.Saving.{HasTriedPut}
 use Rattle.pin_rule.proofs.Trying.{one_left}
 
 true_false : {A : Type 0} → true ≡ false → A

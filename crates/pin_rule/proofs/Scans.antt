@@ -1,5 +1,5 @@
 -- A scan of the slots, try by try.
-use Rattle.std.proofs.Common.{◌≡◌, ℕ, suc, ◌+◌, ◌<◌, ◌≤◌, subst, arith}
+use Rattle.std.proofs.Common.{◌≡◌, ℕ, suc, ◌+◌, ◌<◌, subst, arith}
 use Rattle.pin_words.specs.declared.doing.Doing.{Doing}
 use Rattle.pin_words.specs.Plan.{Plan}
 use Rattle.pin_words.specs.Cells.{MissesSlot, MissesSlots, HasScanned}

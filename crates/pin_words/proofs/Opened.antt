@@ -1,6 +1,6 @@
 -- What the stores show that a table is made with.
 use Rattle.std.proofs.Common.{◌≡◌, ℕ, zero, suc, IsTrue, List, [], ◌∷◌, map, refl, sym, ap, true≢false}
-use mathlib.Core.Option.{Option, some}
+use mathlib.Core.Option.{some}
 use lib.ListN.{get_elem?}
 use Rattle.cell_store.specs.Store.{Contents}
 use Rattle.stood_arrays.specs.Opening.{store_in}

@@ -24,7 +24,7 @@ use Rattle.pin_words.specs.declared.doing.Stage.{Stage}
 use Rattle.pin_words.specs.declared.doing.Stage.TheVariants.{Idle, Joining}
 use Rattle.pin_words.specs.Plan.{Plan, shape_of, start_of}
 use Rattle.pin_words.specs.Account.{filled_in, filled, rise, rise_ended, times_in}
-use Rattle.pin_words.specs.Words.{out_of, out, passes, times, times_held, visits, doing_counts, slots_held, Each, HeldOk, Knowns, Parts, IsLone, works, times_left, given_to}
+use Rattle.pin_words.specs.Words.{out_of, out, passes, times, times_held, visits, doing_counts, slots_held, Each, HeldOk, Knowns, Parts, works, times_left, given_to}
 use Rattle.pin_words.specs.Rule.{Staged, HoldsOk, HoldsNone, Ruled, Sat}
 use Rattle.pin_words.specs.Tells.{SawOthers, HasSeen}
 use Rattle.pin_words.specs.Ends.{parent, child, ended_as, IsBare, joined, spent_view, trail_of, Told, settled}
@@ -242,8 +242,12 @@ module _ {S M : Type 0} (p : Plan S M) where
 
       -- what the pass sees now and hadn't seen is others' doing: it had seen all that it made
       others : SawOthers 0 v.seen (longer v.seen e.seen)
-      others = (both.1.0, both.1.1, none_between pass_of 0 v.seen both.1.0 (ap (entries_by pass_of 0) (sym both.1.1)
-          ∙ subst (λ (k : ℕ). entries_by pass_of k (longer v.seen e.seen) ≡ entries_by pass_of k v.seen) zero_is ((roster_then.each id b here refl).all_seen ∙ sym (r.roster.each id v at lv).all_seen)))
+      others = (
+        both.1.0,
+        both.1.1,
+        none_between pass_of 0 v.seen both.1.0 (ap (entries_by pass_of 0) (sym both.1.1)
+            ∙ subst (λ (k : ℕ). entries_by pass_of k (longer v.seen e.seen) ≡ entries_by pass_of k v.seen) zero_is ((roster_then.each id b here refl).all_seen ∙ sym (r.roster.each id v at lv).all_seen)),
+      )
 
       first : Parts p r.log r.ended s.words s.homes (set s.views id b)
       first = parts_as r.log r.ended r.ended s.words s.homes s.views id v b r.parts at (λ c. ap (λ (st : Stage). times c v.pins + visits c st) (sym idle)) (λ c. refl) refl (inr refl) refl refl (knowns_stay p s r id v b at refl refl)

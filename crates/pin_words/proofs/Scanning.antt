@@ -1,19 +1,17 @@
 -- One try of a slot after another.
-use Rattle.std.proofs.Common.{◌≡◌, ◌≢◌, ℕ, zero, suc, ◌+◌, ◌<◌, ◌==◌, true, List, [], ◌∷◌, ◌++◌, length, append_assoc, None, sym, refl, ap, ◌∙◌, subst, inl, inr, ⊎_elim, arith}
+use Rattle.std.proofs.Common.{◌≡◌, ℕ, zero, suc, ◌+◌, ◌<◌, List, [], ◌∷◌, ◌++◌, length, append_assoc, None, sym, refl, ap, ◌∙◌, subst, arith}
 use mathlib.Core.Logic.{dite}
 use native.Mathlib.Decide.{ℕ_discrete}
 use Rattle.std.proofs.lemmas.List.{append-nil}
 use Rattle.arr_history.specs.declared.event.Event.{Event}
-use Rattle.arr_history.specs.Legal.{HasSlot}
-use Rattle.arr_history.specs.History.{after, AreLegal, pass_of}
+use Rattle.arr_history.specs.History.{pass_of}
 use Rattle.pass_roster.specs.History.{entries_by}
 use Rattle.pass_roster.proofs.Entries.{by_append}
 use Rattle.pin_words.specs.declared.holding.Held.{Held}
 use Rattle.pin_words.specs.declared.doing.Ended.{Ended}
 use Rattle.pin_words.specs.declared.doing.Doing.{Doing}
 use Rattle.pin_words.specs.declared.doing.Try.{Try}
-use Rattle.pin_words.specs.Plan.{Plan, shape_of, start_of}
-use Rattle.pin_words.specs.Finding.{has_by}
+use Rattle.pin_words.specs.Plan.{Plan}
 use Rattle.pin_words.specs.Tells.{IsLone, SawTo, Sees, tried}
 use Rattle.pin_words.specs.Cells.{held, scanned, IsInUse, TakesSlot, MissesSlot, MissesSlots, HasScanned, TakesFirst}
 

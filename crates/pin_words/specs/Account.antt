@@ -1,5 +1,5 @@
 -- What is known of the store of a lane: what it stands for, and its gets, puts and faults, against the history.
-use Rattle.std.specs.Prelude.{◌≡◌, ◌≢◌, ℕ, ◌+◌, ◌-◌, ◌^◌, ◌<◌, ◌≤◌, ◌==◌, nat_le, min, cond, Bool, true, false, IsTrue, List, [], ◌∷◌, ◌++◌, slice_index_or, Option, Some, None}
+use Rattle.std.specs.Prelude.{◌≡◌, ◌≢◌, ℕ, ◌+◌, ◌-◌, ◌^◌, ◌<◌, ◌≤◌, ◌==◌, cond, true, false, IsTrue, List, [], ◌∷◌, slice_index_or, Option, Some, None}
 use Rattle.cell_store.specs.Store.{Contents, held_of}
 use Rattle.arr_history.specs.declared.event.Event.{Event}
 use Rattle.arr_history.specs.State.{State}

@@ -1,5 +1,5 @@
 use Rattle.pin_rule.proofs.CellWords.{shown}
-use Rattle.std.proofs.Common.{rules, ◌∙◌}
+use Rattle.std.proofs.Common.{◌∙◌}
 use Rattle.pin_rule.proofs.cell_word.CellWord.of.Goals as goal
 
 pub returns : goal.returns
