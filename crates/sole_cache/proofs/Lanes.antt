@@ -7,11 +7,9 @@ use Rattle.cell_file.specs.declared.errors.FetchErr.{FetchErr}
 use Rattle.cell_file.specs.declared.errors.SaveErr.{SaveErr}
 use Rattle.cell_file.specs.File.{put_entry, LogsFetch, LogsRefusedFetch, LogsRefusedSave}
 use Rattle.sole_cache.specs.Cached.{store_in}
-use Rattle.sole_cache.specs.Moves.{Fetched, Saved}
-use Rattle.sole_cache.proofs.Logs.{same_key, fetch_log, fetch_got, refused_log, one_put, refused_put}
-
-false_true : false ≡ true → ⊥
-false_true e = cc
+use Rattle.stood_arrays.specs.Moves.{StoreMoves, Fetched, Saved}
+use Rattle.stood_arrays.proofs.Logs.{same_key}
+use Rattle.stood_arrays.proofs.Moves.{fetches_move, refused_fetches_move, saves_move, refused_saves_move}
 
 -- two equal things in place of two
 pub both : {X Y : Type 0} (P : X → Y → Type 0) (a b : X) (x y : Y) → a ≡ b → x ≡ y → P b y → P a x
@@ -38,49 +36,25 @@ module _ {S : Type 0} (contents : S → Contents) where
 pub whole : (len : ℕ) (out rest : List ℕ) → length out ≡ len → take len (out ++ rest) ≡ out
 whole len out rest h = subst (λ k. take k (out ++ rest) ≡ out) h (take-append_seam out rest)
 
-pub fetched_ok : {X : Type 0} (r : Result X FetchErr) (key base : List ℕ) (old new : Contents) → new.told ≡ old.told → new.told_log ≡ old.told_log → old.faults ≤ new.faults → (IsTrue old.told → (held_of new) ≡ (held_of old))
-    → (IsTrue old.told_log → OnOk r (LogsFetch old.log new.log key base)) → OnOk r (Fetched key true old new)
-fetched_ok (Ok x) key base old new told told_log never held logs = record {
-  moves = record { told = told; told_log = told_log; never_falls = never };
-  held = held;
-  no_put = λ other t. (fetch_log old.log new.log key base (logs t)).no_put other;
-  gets = λ other t. (fetch_log old.log new.log key base (logs t)).gets other;
-  got = λ _ t. fetch_got old.log new.log key base (logs t);
-}
-fetched_ok (Err e) key base old new told told_log never held logs = tt
+module _ (key : List ℕ) (old new : Contents) (told : new.told ≡ old.told) (told_log : new.told_log ≡ old.told_log) (never : old.faults ≤ new.faults) where
+  moved : StoreMoves old new
+  moved = record { told = told; told_log = told_log; never_falls = never }
 
-pub fetched_err : {X : Type 0} (r : Result X FetchErr) (key base : List ℕ) (old new : Contents) → new.told ≡ old.told → new.told_log ≡ old.told_log → old.faults ≤ new.faults → (IsTrue old.told → (held_of new) ≡ (held_of old))
-    → (IsTrue old.told_log → IfErr r (λ err. LogsRefusedFetch old.log new.log key base err)) → OnErr r (Fetched key false old new)
-fetched_err (Ok x) key base old new told told_log never held logs = tt
-fetched_err (Err e) key base old new told told_log never held logs = record {
-  moves = record { told = told; told_log = told_log; never_falls = never };
-  held = held;
-  no_put = λ other t. (refused_log old.log new.log key base e (logs t)).no_put other;
-  gets = λ other t. (refused_log old.log new.log key base e (logs t)).gets other;
-  got = λ f _. absurd (false_true f);
-}
+  pub fetched_ok : {X : Type 0} (r : Result X FetchErr) (base : List ℕ) → (IsTrue old.told → (held_of new) ≡ (held_of old)) → (IsTrue old.told_log → OnOk r (LogsFetch old.log new.log key base)) → OnOk r (Fetched key true old new)
+  fetched_ok (Ok x) base held logs = fetches_move key base old new moved held logs
+  fetched_ok (Err e) base held logs = tt
 
-pub saved_ok : {X : Type 0} (r : Result X SaveErr) (key : List ℕ) (old new : Contents) → new.told ≡ old.told → new.told_log ≡ old.told_log → old.faults ≤ new.faults → (IsTrue old.told → SameElsewhere (held_of old) (held_of new) key)
-    → (IsTrue old.told_log → OnOk r (new.log ≡ old.log ++ put_entry key true ∷ [])) → OnOk r (Saved key true old new)
-saved_ok (Ok x) key old new told told_log never held logs = record {
-  moves = record { told = told; told_log = told_log; never_falls = never };
-  held = held;
-  gets = λ other t. (one_put old.log new.log key true (logs t)).gets other;
-  other_puts = λ other ne t. (one_put old.log new.log key true (logs t)).other_puts other ne;
-  puts = λ t. (one_put old.log new.log key true (logs t)).puts;
-}
-saved_ok (Err e) key old new told told_log never held logs = tt
+  pub fetched_err : {X : Type 0} (r : Result X FetchErr) (base : List ℕ) → (IsTrue old.told → (held_of new) ≡ (held_of old)) → (IsTrue old.told_log → IfErr r (λ err. LogsRefusedFetch old.log new.log key base err)) → OnErr r (Fetched key false old new)
+  fetched_err (Ok x) base held logs = tt
+  fetched_err (Err e) base held logs = refused_fetches_move key base e old new moved held logs
 
-pub saved_err : {X : Type 0} (r : Result X SaveErr) (key : List ℕ) (old new : Contents) → new.told ≡ old.told → new.told_log ≡ old.told_log → old.faults ≤ new.faults → (IsTrue old.told → SameElsewhere (held_of old) (held_of new) key)
-    → (IsTrue old.told_log → IfErr r (λ err. LogsRefusedSave old.log new.log key err)) → OnErr r (Saved key false old new)
-saved_err (Ok x) key old new told told_log never held logs = tt
-saved_err (Err e) key old new told told_log never held logs = record {
-  moves = record { told = told; told_log = told_log; never_falls = never };
-  held = held;
-  gets = λ other t. (refused_put old.log new.log key e (logs t)).gets other;
-  other_puts = λ other ne t. (refused_put old.log new.log key e (logs t)).other_puts other ne;
-  puts = λ t. (refused_put old.log new.log key e (logs t)).puts;
-}
+  pub saved_ok : {X : Type 0} (r : Result X SaveErr) → (IsTrue old.told → SameElsewhere (held_of old) (held_of new) key) → (IsTrue old.told_log → OnOk r (new.log ≡ old.log ++ put_entry key true ∷ [])) → OnOk r (Saved key true old new)
+  saved_ok (Ok x) held logs = saves_move key old new moved held logs
+  saved_ok (Err e) held logs = tt
+
+  pub saved_err : {X : Type 0} (r : Result X SaveErr) → (IsTrue old.told → SameElsewhere (held_of old) (held_of new) key) → (IsTrue old.told_log → IfErr r (λ err. LogsRefusedSave old.log new.log key err)) → OnErr r (Saved key false old new)
+  saved_err (Ok x) held logs = tt
+  saved_err (Err e) held logs = refused_saves_move key e old new moved held logs
 
 -- what holds in one case of an answer holds of what follows from it
 pub map_ok : {X E : Type 0} (r : Result X E) (A B : Type 0) → (A → B) → OnOk r A → OnOk r B

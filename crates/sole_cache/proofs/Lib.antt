@@ -9,7 +9,6 @@ pub mod Composed
 pub mod Kept
 pub mod Claims
 pub mod Stood
-pub mod Logs
 pub mod Lanes
 pub mod Calls
 pub mod Faults

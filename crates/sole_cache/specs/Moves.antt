@@ -18,12 +18,7 @@ use Rattle.sole_cache.specs.Turns.{order_after}
 use Rattle.stood_arrays.specs.Standing.{StandsFor}
 pub use Rattle.stood_arrays.specs.Counts.{saves, loads}
 pub use Rattle.stood_arrays.specs.Entries.{is_put, is_get}
-
--- What a store shows before and after: whether it tells is the same, its count of faults never falls, and its log only grows.
-pub record StoreMoves (old new : Contents) : Type 0 where
-  pub told : new.told ≡ old.told
-  pub told_log : new.told_log ≡ old.told_log
-  pub never_falls : old.faults ≤ new.faults
+pub use Rattle.stood_arrays.specs.Moves.{StoreMoves, Fetched, Saved}
 
 -- Each store, before and after events.
 pub record StoresMove (old : Cached) (events : List Event) (new : Cached) : Type 0 where
@@ -57,22 +52,6 @@ pub record Runs (old : Cached) (events : List Event) (new : Cached) : Type 0 whe
 abbrev pub IsStoodFor : Cached → Type 0
 IsStoodFor c = (n : ℕ) → n < cells_of c.levels → IsTrue (store_of c n).told → (shape_of c).is_void n ≡ false → ¬ IsMarked ((state_of c).cells n)
     → StandsFor (voxels_of c.levels) (standing c.levels c.keys) (held_of (store_of c n)) n ((state_of c).arrays n)
-
--- What getting a cell's block did to its store: nothing that is held, no put, and where it gave values a get under the edited key.
-pub record Fetched (key : List ℕ) (gave : Bool) (old new : Contents) : Type 0 where
-  pub moves : StoreMoves old new
-  pub held : IsTrue old.told → (held_of new) ≡ (held_of old)
-  pub no_put : (other : List ℕ) → IsTrue old.told_log → count_by (is_put other) new.log ≡ count_by (is_put other) old.log
-  pub gets : (other : List ℕ) → IsTrue old.told_log → count_by (is_get other) old.log ≤ count_by (is_get other) new.log
-  pub got : IsTrue gave → IsTrue old.told_log → count_by (is_get key) old.log + 1 ≤ count_by (is_get key) new.log
-
--- What putting a cell's block did to its store: no other key, no get, and where it was done a put under the edited key.
-pub record Saved (key : List ℕ) (done : Bool) (old new : Contents) : Type 0 where
-  pub moves : StoreMoves old new
-  pub held : IsTrue old.told → (other : List ℕ) → bytes_eq key other ≡ false → (held_of new) other ≡ (held_of old) other
-  pub gets : (other : List ℕ) → IsTrue old.told_log → count_by (is_get other) new.log ≡ count_by (is_get other) old.log
-  pub other_puts : (other : List ℕ) → bytes_eq key other ≡ false → IsTrue old.told_log → count_by (is_put other) new.log ≡ count_by (is_put other) old.log
-  pub puts : IsTrue old.told_log → count_by (is_put key) new.log ≡ count_by (is_put key) old.log + cond done 1 0
 
 -- The stores after the frame of a slot was put as its cell's block: one store changed, and it stands for the frame.
 pub record IsSaved (c : Cached) (n i : ℕ) (shown : List Contents) : Type 0 where

@@ -4,3 +4,4 @@ pub mod Standing
 pub mod Opening
 pub mod Pyramid
 pub mod Licenses
+pub mod Moves

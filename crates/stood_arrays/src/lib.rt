@@ -3,4 +3,6 @@
 
 mod laws;
 
-pub use laws::{logs_add_up, openings_stand, rises_are_counted, totals_are_counts};
+pub use laws::{
+    fetches_move, logs_add_up, openings_stand, rises_are_counted, saves_move, totals_are_counts,
+};

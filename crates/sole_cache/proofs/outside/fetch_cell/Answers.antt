@@ -33,7 +33,7 @@ returns-clause-fetched g c =
     subst (λ k. OnOk c.fetch.result (Fetched (edited_key c.args.geometry.now c.args.cell) true (store_in (map g.S.Store.contents c.args.stores.now.items) k) (store_in (map g.S.Store.contents (slice_set c.args.stores.now.items c.lane-lane.result c.fetch.new.store)) k))) at
     (both (λ a b. OnOk c.fetch.result (Fetched (edited_key c.args.geometry.now c.args.cell) true a b)) _ _ _ _
     (was_store g.S.Store.contents c.args.stores.now.items c.lane-lane.result _ c.index_mut.ensures.value inside) (is_store g.S.Store.contents c.args.stores.now.items c.lane-lane.result c.fetch.new.store inside)
-    (fetched_ok c.fetch.result (edited_key c.args.geometry.now c.args.cell) (base_key c.args.geometry.now c.args.keys.now c.args.cell) _ _ e.told e.told_log e.never_falls e.held e.logged))
+    (fetched_ok (edited_key c.args.geometry.now c.args.cell) _ _ e.told e.told_log e.never_falls c.fetch.result (base_key c.args.geometry.now c.args.keys.now c.args.cell) e.held e.logged))
 
 pub returns-clause-not_fetched : goal.returns-clause-not_fetched
 returns-clause-not_fetched g c =
@@ -44,7 +44,7 @@ returns-clause-not_fetched g c =
     subst (λ k. OnErr c.fetch.result (Fetched (edited_key c.args.geometry.now c.args.cell) false (store_in (map g.S.Store.contents c.args.stores.now.items) k) (store_in (map g.S.Store.contents (slice_set c.args.stores.now.items c.lane-lane.result c.fetch.new.store)) k))) at
     (both (λ a b. OnErr c.fetch.result (Fetched (edited_key c.args.geometry.now c.args.cell) false a b)) _ _ _ _
     (was_store g.S.Store.contents c.args.stores.now.items c.lane-lane.result _ c.index_mut.ensures.value inside) (is_store g.S.Store.contents c.args.stores.now.items c.lane-lane.result c.fetch.new.store inside)
-    (fetched_err c.fetch.result (edited_key c.args.geometry.now c.args.cell) (base_key c.args.geometry.now c.args.keys.now c.args.cell) _ _ e.told e.told_log e.never_falls e.held e.logged_refused))
+    (fetched_err (edited_key c.args.geometry.now c.args.cell) _ _ e.told e.told_log e.never_falls c.fetch.result (base_key c.args.geometry.now c.args.keys.now c.args.cell) e.held e.logged_refused))
 
 pub returns-clause-read_fault : goal.returns-clause-read_fault
 returns-clause-read_fault g c =

@@ -36,7 +36,7 @@ returns-clause-saved g c =
     subst (λ k. OnOk c.save.result (Saved (edited_key c.args.geometry.now c.args.cell) true (store_in (map g.S.Store.contents c.args.stores.now.items) k) (store_in (map g.S.Store.contents (slice_set c.args.stores.now.items c.lane-lane.result c.save.new.store)) k))) at
     (both (λ (a b : Contents). OnOk c.save.result (Saved (edited_key c.args.geometry.now c.args.cell) true a b)) _ _ _ _
     (was_store g.S.Store.contents c.args.stores.now.items c.lane-lane.result _ c.index_mut.ensures.value inside) (is_store g.S.Store.contents c.args.stores.now.items c.lane-lane.result c.save.new.store inside)
-    (saved_ok c.save.result (edited_key c.args.geometry.now c.args.cell) _ _ e.told e.told_log e.never_falls e.elsewhere e.logged))
+    (saved_ok (edited_key c.args.geometry.now c.args.cell) _ _ e.told e.told_log e.never_falls c.save.result e.elsewhere e.logged))
 
 pub returns-clause-not_saved : goal.returns-clause-not_saved
 returns-clause-not_saved g c =
@@ -48,7 +48,7 @@ returns-clause-not_saved g c =
     subst (λ k. OnErr c.save.result (Saved (edited_key c.args.geometry.now c.args.cell) false (store_in (map g.S.Store.contents c.args.stores.now.items) k) (store_in (map g.S.Store.contents (slice_set c.args.stores.now.items c.lane-lane.result c.save.new.store)) k))) at
     (both (λ (a b : Contents). OnErr c.save.result (Saved (edited_key c.args.geometry.now c.args.cell) false a b)) _ _ _ _
     (was_store g.S.Store.contents c.args.stores.now.items c.lane-lane.result _ c.index_mut.ensures.value inside) (is_store g.S.Store.contents c.args.stores.now.items c.lane-lane.result c.save.new.store inside)
-    (saved_err c.save.result (edited_key c.args.geometry.now c.args.cell) _ _ e.told e.told_log e.never_falls e.elsewhere e.logged_refused))
+    (saved_err (edited_key c.args.geometry.now c.args.cell) _ _ e.told e.told_log e.never_falls c.save.result e.elsewhere e.logged_refused))
 
 pub returns-clause-stands : goal.returns-clause-stands
 returns-clause-stands g c =

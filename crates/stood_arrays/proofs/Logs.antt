@@ -11,7 +11,7 @@ use Rattle.cell_file.specs.declared.errors.SaveErr.{SaveErr}
 use Rattle.cell_file.specs.declared.errors.SaveErr.TheVariants as save
 use Rattle.cell_file.specs.File.{got_entry, put_entry, LogsOneGet, LogsTwoGets, LogsFetch, LogsRefusedFetch, LogsRefusedSave}
 use Rattle.arr_history.proofs.Counts.{count_by-append}
-use Rattle.sole_cache.specs.Moves.{is_put, is_get}
+use Rattle.stood_arrays.specs.Entries.{is_put, is_get}
 
 -- the counts of a log with more entries
 counted_one : (p : Entry → Bool) (log : List Entry) (e : Entry) → count_by p (log ++ e ∷ []) ≡ count_by p log + cond (p e) 1 0
