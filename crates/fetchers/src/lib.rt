@@ -3,6 +3,7 @@
 
 mod fetched;
 mod fetching;
+mod nap;
 mod served;
 mod serving;
 mod until_closed;
