@@ -1,0 +1,9 @@
+pub mod Actors
+pub mod Steps
+pub mod Lanes
+pub mod Fetching
+pub mod Turning
+pub mod Loads
+pub mod Cells
+pub mod Voxels
+pub mod Shutting
