@@ -1,0 +1,4 @@
+pub mod Holding
+pub mod Teammate
+pub mod TeammateLaws
+pub mod Shown
