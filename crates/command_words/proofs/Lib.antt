@@ -1,0 +1,9 @@
+mod NumberLemmas
+mod TakenLemmas
+mod ClapRules
+mod ClapRows
+mod ClapTurns
+mod ClapFaults
+mod ClapWalk
+mod ClapTaken
+mod RequestLemmas

@@ -1,0 +1,4 @@
+pub mod Number
+pub mod Command
+pub mod Grammar
+pub mod Request

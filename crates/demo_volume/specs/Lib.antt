@@ -1,0 +1,6 @@
+pub mod Below
+pub mod Voxels
+pub mod Levels
+pub mod Cells
+pub mod Maker
+pub mod Puts
