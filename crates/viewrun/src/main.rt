@@ -28,7 +28,7 @@ fn main(rt: HostRuntime) -> ExitCode {
 /// Does what the command words ask for, in the working folder, and gives the status.
 fn run<R: Runtime + AllocGlobal>(rt: &R) -> io::Result<u8> {
     let words = command_words(rt)?;
-    let path = script_name(words.as_slice())?.unwrap_or("");
+    let path = script_name(rt.alloc(), words.as_slice())?.unwrap_or("");
     let mut script = FileSource::at(rt.clone()?, rt.alloc(), path)?;
     let stores = folder_stores(rt)?;
     let mut out = StdSink::new(rt.clone()?);

@@ -1,9 +1,12 @@
 -- The calls of the stores of a call lead from the stores before it to those after it.
 use Rattle.std.proofs.Common.{◌≡◌, ℕ, zero, suc, List, [], ◌∷◌, Option, None, Some, Result, Ok, Err, refl, sym, ap, subst}
+use Rattle.std.specs.declared.alloc.AllocError.{AllocError}
 use Rattle.cell_file.specs.Keys.{KeyNames}
 use Rattle.cell_grid.specs.declared.level.Level.{Level}
 use Rattle.cell_store.specs.Store.{Contents}
 use Rattle.cell_store.specs.Stream.{Stream}
+use Rattle.command_words.specs.declared.request.Request.{Request}
+use Rattle.command_words.specs.declared.request.Request.TheVariants.{Info, Solo, Run, Demo}
 use Rattle.n5_meta.specs.declared.open_err.OpenErr.{OpenErr}
 use Rattle.run_report.specs.declared.report.Report.{Report}
 use Rattle.run_report.specs.declared.stop.Stop.{Stop}
@@ -13,8 +16,6 @@ use Rattle.store_calls.proofs.Composed.{called_on}
 use Rattle.team_run.specs.Run.{IsRunOf, run_calls}
 use Rattle.view_script.specs.declared.script.Script.{Script}
 use Rattle.view_script.specs.Script.{NumberedCommand}
-use Rattle.viewrun_calls.specs.declared.words.Request.{Request}
-use Rattle.viewrun_calls.specs.declared.words.Request.TheVariants.{Info, Solo}
 use Rattle.viewrun_calls.specs.declared.work.Done.{Done}
 use Rattle.viewrun_calls.specs.declared.work.Done.TheVariants.{Levels, Ran}
 use Rattle.viewrun_calls.specs.Stores.{FirstChanges}
@@ -86,7 +87,10 @@ reading_called slots old new calls (Ok script) work h =
     (called_on old h.mid new h.gets h.more (first_called h.gets old h.mid h.asked) (opening_called script slots h.mid new h.more h.opened work h.follows))
 reading_called slots old new calls (Err stop) work h = nothing_called old new calls h.2 h.1
 
-pub works_called : (request : Option Request) (source source' : Stream) (old new : List Contents) (calls : List StoreCall) (work : Result Done Stop) → Works request source source' old new calls work → AreCalled calls old new
-works_called None source source' old new calls work h = nothing_called old new calls h.3 h.2
-works_called (Some (Info root)) source source' old new calls work h = first_called calls old new h.0.asked
-works_called (Some (Solo script slots)) source source' old new calls work h = reading_called slots old new calls h.read work h.follows
+pub works_called : (read : Result (Option Request) AllocError) (source source' : Stream) (old new : List Contents) (calls : List StoreCall) (work : Result Done Stop) → Works read source source' old new calls work → AreCalled calls old new
+works_called (Ok None) source source' old new calls work h = nothing_called old new calls h.3 h.2
+works_called (Ok (Some (Info root))) source source' old new calls work h = first_called calls old new h.0.asked
+works_called (Ok (Some (Solo script slots))) source source' old new calls work h = reading_called slots old new calls h.read work h.follows
+works_called (Ok (Some (Run script slots fetchers))) source source' old new calls work h = nothing_called old new calls h.3 h.2
+works_called (Ok (Some (Demo number))) source source' old new calls work h = nothing_called old new calls h.3 h.2
+works_called (Err memory) source source' old new calls work h = nothing_called old new calls h.3 h.2

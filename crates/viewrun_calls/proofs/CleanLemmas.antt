@@ -1,5 +1,5 @@
 -- Calls of the stores that were all answered.
-use Rattle.std.proofs.Common.{◌≡◌, ◌∙◌, ℕ, ◌==◌, Bool, true, false, true≢false, not, ◌&&◌, cond, IsTrue, List, [], ◌∷◌, Option, Result, refl, sym}
+use Rattle.std.proofs.Common.{◌≡◌, ◌∙◌, ℕ, ◌==◌, Bool, true, false, true≢false, not, ◌&&◌, cond, IsTrue, List, [], ◌∷◌, Result, refl, sym}
 use Rattle.std.specs.Str.{bytes_eq}
 use Rattle.cell_store.specs.declared.store.Put.TheVariants as put
 use Rattle.cell_store.specs.Store.{Contents}
@@ -10,11 +10,9 @@ use Rattle.alike_runs.specs.Holding.{HoldAlike}
 use Rattle.alike_runs.specs.Runs.{RunsAreAlike}
 use Rattle.n5_meta.specs.Laws.{OpeningsAreAlike}
 use Rattle.viewrun_calls.specs.Clean.{AreClean, CanBeGivenAlike, CleanCallsAreOne}
-use Rattle.viewrun_calls.specs.declared.words.Request.{Request}
 use Rattle.viewrun_calls.specs.declared.work.Done.{Done}
 use Rattle.viewrun_calls.specs.OneFunction.{AreGivenAlike, EndAlike, IsOfStores}
-use Rattle.viewrun_calls.specs.Words.{request_in}
-use Rattle.viewrun_calls.specs.Work.{Works}
+use Rattle.viewrun_calls.specs.Work.{ReadsAndWorks}
 use Rattle.viewrun_calls.proofs.OneLemmas.{works_alike}
 
 pub fails_as_itself : (calls : List StoreCall) → FailAlike calls calls
@@ -58,13 +56,13 @@ clean_closed lane key b e [] p = e
 clean_closed lane key b e (c ∷ calls) p = clean_closed lane key (open_after lane key b c) (closed_by lane key b e c p.0) calls p.1
 
 module _ (on : RunsAreAlike) (opens : OpeningsAreAlike) where
-  pub clean_works : (request : Option Request) (s s' t t' : Stream) (old new before after : List Contents) (k l : List StoreCall) (work other : Result Done Stop)
-      → AreGivenAlike s t old before → Works request s s' old new k work → Works request t t' before after l other → AreClean k → AreClean l → IsOfStores work k → IsOfStores other l
+  pub clean_works : (words : List (List ℕ)) (s s' t t' : Stream) (old new before after : List Contents) (k l : List StoreCall) (work other : Result Done Stop)
+      → AreGivenAlike s t old before → ReadsAndWorks words s s' old new k work → ReadsAndWorks words t t' before after l other → AreClean k → AreClean l → IsOfStores work k → IsOfStores other l
       → EndAlike work other × HoldAlike new after
-  clean_works request s s' t t' old new before after k l work other given works works' clean clean' of of' =
-      let both = works_alike on opens request s s' t t' old new before after k l work other given works works' (clean_alike k l clean clean') of of' in
+  clean_works words s s' t t' old new before after k l work other given works works' clean clean' of of' =
+      let both = works_alike on opens words s s' t t' old new before after k l work other given works works' (clean_alike k l clean clean') of of' in
       (both.0, record { lanes = both.1.lanes; told = both.1.told; held = λ lane key lt. both.1.held lane key lt (clean_closed lane key false refl k clean) })
 
   pub clean_one : CleanCallsAreOne
   clean_one words source source' old new before after status call other other' stores left start end code again given clean clean' of of' =
-      clean_works (request_in words) source source' other other' old new stores left call.calls again.calls call.work again.work given call.works again.works clean clean' of of'
+      clean_works words source source' other other' old new stores left call.calls again.calls call.work again.work given call.works again.works clean clean' of of'

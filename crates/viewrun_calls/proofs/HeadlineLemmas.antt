@@ -1,8 +1,13 @@
 -- The run of a script has its headline: whatever else a call did, it left no report.
 use Rattle.std.proofs.Common.{◌≡◌, ◌∙◌, ℕ, List, Option, None, Some, Result, Ok, Err, refl, sym, subst}
+use Rattle.std.specs.Prelude.{IfOk}
+use Rattle.std.specs.declared.alloc.AllocError.{AllocError}
 use Rattle.cell_grid.specs.declared.level.Level.{Level}
 use Rattle.cell_store.specs.Store.{Contents}
 use Rattle.cell_store.specs.Stream.{Stream}
+use Rattle.command_words.specs.Request.{request_in}
+use Rattle.command_words.specs.declared.request.Request.{Request}
+use Rattle.command_words.specs.declared.request.Request.TheVariants.{Info, Solo, Run, Demo}
 use Rattle.n5_meta.specs.declared.open_err.OpenErr.{OpenErr}
 use Rattle.run_report.specs.declared.report.Report.{Report}
 use Rattle.run_report.specs.declared.report.Unwritten.{Unwritten}
@@ -10,16 +15,13 @@ use Rattle.run_report.specs.declared.stop.Stop.{Stop}
 use Rattle.run_report.specs.declared.stop.Stop.TheVariants as stop
 use Rattle.store_calls.specs.Calls.{StoreCall}
 use Rattle.view_script.specs.declared.script.Script.{Script}
-use Rattle.viewrun_calls.specs.declared.words.Request.{Request}
-use Rattle.viewrun_calls.specs.declared.words.Request.TheVariants.{Info, Solo}
 use Rattle.viewrun_calls.specs.declared.work.Done.{Done}
 use Rattle.viewrun_calls.specs.declared.work.Done.TheVariants.{Ran}
 use Rattle.viewrun_calls.specs.Headline.{RunsScript}
 use Rattle.viewrun_calls.specs.Script.{ReadsScript}
 use Rattle.viewrun_calls.specs.Stores.{FirstChanges}
 use Rattle.viewrun_calls.specs.Volume.{OpensVolume}
-use Rattle.viewrun_calls.specs.Words.{request_in}
-use Rattle.viewrun_calls.specs.Work.{FollowsOpening, FollowsReading, OpensAndRuns, RunsAndWrites, RunsOpen, Works, told_of}
+use Rattle.viewrun_calls.specs.Work.{FollowsOpening, FollowsReading, OpensAndRuns, ReadsAndWorks, RunsAndWrites, RunsOpen, Works, told_of}
 
 no_levels : {A : Type 0} (opened : Result (List Level) OpenErr) (report : Report) (unwritten : List Unwritten) → told_of opened ≡ Ok (Ran report unwritten) → A
 no_levels (Ok levels) report unwritten is = absurd (cc)
@@ -66,8 +68,14 @@ module _ (words : List (List ℕ)) (source source' : Stream) (old new : List Con
   script_read name slots calls (Ok script) asked reads follows is = ran name slots script calls asked reads follows is
   script_read name slots calls (Err stop) asked reads follows is = no_stop stop report unwritten work follows.0 is
 
-  pub works_headline : (calls : List StoreCall) (request : Option Request) → request_in words ≡ request → Works request source source' old new calls work
+  works_headline : (calls : List StoreCall) (read : Result (Option Request) AllocError) → IfOk read (λ request. request ≡ request_in words) → Works read source source' old new calls work
       → work ≡ Ok (Ran report unwritten) → RunsScript words source source' old new report unwritten
-  works_headline calls None asked works is = no_stop stop.Usage report unwritten work works.0 is
-  works_headline calls (Some (Info root)) asked works is = no_levels works.0.opened report unwritten (sym works.0.told ∙ is)
-  works_headline calls (Some (Solo name slots)) asked works is = script_read name slots calls works.read asked works.reads works.follows is
+  works_headline calls (Ok None) asked works is = no_stop stop.Usage report unwritten work works.0 is
+  works_headline calls (Ok (Some (Info root))) asked works is = no_levels works.0.opened report unwritten (sym works.0.told ∙ is)
+  works_headline calls (Ok (Some (Solo name slots))) asked works is = script_read name slots calls works.read (sym asked) works.reads works.follows is
+  works_headline calls (Ok (Some (Run name slots fetchers))) asked works is = no_stop stop.Usage report unwritten work works.0 is
+  works_headline calls (Ok (Some (Demo number))) asked works is = no_stop stop.Usage report unwritten work works.0 is
+  works_headline calls (Err memory) asked works is = no_stop stop.Memory report unwritten work works.0 is
+
+  pub call_headline : (calls : List StoreCall) → ReadsAndWorks words source source' old new calls work → work ≡ Ok (Ran report unwritten) → RunsScript words source source' old new report unwritten
+  call_headline calls done is = works_headline calls done.read done.reads done.works is

@@ -2,7 +2,6 @@
 pub mod AlikeLemmas
 mod KeyLemmas
 mod LogLemmas
-mod NumberLemmas
 mod PictureLemmas
 mod PutLemmas
 mod RunLemmas

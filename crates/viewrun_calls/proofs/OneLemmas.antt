@@ -1,6 +1,7 @@
 -- Calls of the same words, over the same script and stores that hold the same, whose calls of the stores fail alike, end alike.
-use Rattle.std.proofs.Common.{◌≡◌, ◌∙◌, inl, inr, ℕ, zero, suc, ◌<◌, ◌||◌, Bool, true, false, List, [], ◌∷◌, ◌++◌, length, None, Some, Result, Ok, Err, IsTrue, refl, sym, ap, subst, arith}
-use Rattle.std.specs.Prelude.{take, codes, if◌then◌else◌}
+use Rattle.std.proofs.Common.{◌≡◌, ◌∙◌, inl, inr, ℕ, zero, suc, ◌<◌, ◌||◌, Bool, true, false, List, [], ◌∷◌, ◌++◌, length, Option, None, Some, Result, Ok, Err, IsTrue, refl, sym, ap, subst, arith}
+use Rattle.std.specs.Prelude.{IfOk, take, codes, if◌then◌else◌}
+use Rattle.std.specs.declared.alloc.AllocError.{AllocError}
 use Rattle.std.specs.List.{list_any}
 use Rattle.std.proofs.lemmas.List.{append-nil}
 use Rattle.std.proofs.lemmas.List.Concat.{flat_map-cons}
@@ -9,6 +10,9 @@ use Rattle.arr_history.specs.declared.tally.Tally.{Tally}
 use Rattle.cell_grid.specs.declared.level.Level.{Level}
 use Rattle.cell_store.specs.Store.{Contents, held_of}
 use Rattle.cell_store.specs.Stream.{Stream}
+use Rattle.command_words.specs.Request.{request_in}
+use Rattle.command_words.specs.declared.request.Request.{Request}
+use Rattle.command_words.specs.declared.request.Request.TheVariants.{Info, Solo, Run, Demo}
 use Rattle.n5_meta.specs.declared.open_err.OpenErr.{OpenErr}
 use Rattle.n5_meta.specs.declared.open_err.OpenErr.TheVariants as refused
 use Rattle.n5_meta.specs.Asks.{AsksPyramid, WantsInGets}
@@ -38,7 +42,6 @@ use Rattle.view_script.specs.Meaning.{script_in}
 use Rattle.alike_runs.specs.Holding.{HoldAlike, LeftAlike}
 use Rattle.alike_runs.specs.Runs.{AreSameShots, TellAlike, RunsAreAlike}
 use Rattle.viewrun_calls.specs.Alike.{ShotsAgree, NamedAlike, HoldAlikeUnder}
-use Rattle.viewrun_calls.specs.declared.words.Request.TheVariants.{Info, Solo}
 use Rattle.viewrun_calls.specs.declared.work.Done.{Done}
 use Rattle.viewrun_calls.specs.declared.work.Done.TheVariants.{Levels, Ran}
 use Rattle.viewrun_calls.specs.Ending.{text_of, status_of}
@@ -47,7 +50,7 @@ use Rattle.viewrun_calls.specs.Pictures.{PutsWith}
 use Rattle.viewrun_calls.specs.Script.{limit, AreFirst, ReadsScript}
 use Rattle.viewrun_calls.specs.Stores.{FirstChanges}
 use Rattle.viewrun_calls.specs.Volume.{OpensPyramid, OpensVolume, AsksVolume, AnswersAlways, keys_of, raw_levels}
-use Rattle.viewrun_calls.specs.Work.{RunsAndWrites, RunsOpen, FollowsOpening, OpensAndRuns, FollowsReading, told_of}
+use Rattle.viewrun_calls.specs.Work.{RunsAndWrites, RunsOpen, FollowsOpening, OpensAndRuns, FollowsReading, Stops, Works, told_of}
 use Rattle.viewrun_calls.proofs.AlikeLemmas.{writings_alike}
 use Rattle.viewrun_calls.proofs.OpenLemmas.{pyramid_settles, others_settle, same_left, tells_after}
 
@@ -341,9 +344,32 @@ module _ (runs : RunsAreAlike) (opens : one.OpeningsAreAlike) where
       let next : HoldAlike (x ∷ xs) (y ∷ ys) = subst (λ z. HoldAlike (x ∷ z) (y ∷ ys)) (sym o.1) (subst (λ z. HoldAlike (x ∷ ps) (y ∷ z)) (sym o'.1) (with_heads a b ps qs x y hold both.3)) in
       (end_same work other _ _ told told' (ap told_of both.0), hold_left k (x ∷ xs) (y ∷ ys) next)
 
+  -- two calls that were stopped alike
+  stops_alike : (stop : Stop) (s s' t t' : Stream) (old new before after : List Contents) (k l : List StoreCall) (work other : Result Done Stop) → HoldAlike old before
+      → Stops stop s s' old new k work → Stops stop t t' before after l other → Same work other k new after
+  stops_alike stop s s' t t' old new before after k l work other hold r q = (end_same work other _ _ r.0 q.0 refl, hold_left k new after (hold_same old new before after hold r.2 q.2))
+
+  -- what is done by what is asked for
+  asked_alike : (request : Option Request) (s s' t t' : Stream) (old new before after : List Contents) (k l : List StoreCall) (work other : Result Done Stop) → AreGivenAlike s t old before
+      → Works (Ok request) s s' old new k work → Works (Ok request) t t' before after l other → FailAlike k l → IsOfStores work k → IsOfStores other l → Same work other k new after
+  asked_alike None s s' t t' old new before after k l work other given r q fail of of' = stops_alike stop.Usage s s' t t' old new before after k l work other given.hold r q
+  asked_alike (Some (Info root)) s s' t t' old new before after k l work other given r q fail of of' =
+      informs_alike root old new before after k l r.0.opened q.0.opened work other given.hold fail of of' r.0.asks q.0.asks r.0.told q.0.told r.0.opens r.0.asked q.0.opens q.0.asked
+  asked_alike (Some (Solo script slots)) s s' t t' old new before after k l work other given r q fail of of' =
+      reads_alike slots s s' t t' old new before after k l r.read q.read work other given r.reads q.reads r.follows q.follows fail of of'
+  asked_alike (Some (Run script slots fetchers)) s s' t t' old new before after k l work other given r q fail of of' = stops_alike stop.Usage s s' t t' old new before after k l work other given.hold r q
+  asked_alike (Some (Demo number)) s s' t t' old new before after k l work other given r q fail of of' = stops_alike stop.Usage s s' t t' old new before after k l work other given.hold r q
+
+  -- memory that was wanting when the words were read was wanting in no call of the stores
+  read_alike : (words : List (List ℕ)) (s s' t t' : Stream) (old new before after : List Contents) (k l : List StoreCall) (work other : Result Done Stop) (read again : Result (Option Request) AllocError)
+      → IfOk read (λ request. request ≡ request_in words) → IfOk again (λ request. request ≡ request_in words) → AreGivenAlike s t old before
+      → Works read s s' old new k work → Works again t t' before after l other → FailAlike k l → IsOfStores work k → IsOfStores other l → Same work other k new after
+  read_alike words s s' t t' old new before after k l work other (Ok x) (Ok y) is is' given r q fail of of' =
+      asked_alike x s s' t t' old new before after k l work other given r (subst (λ (z : Option Request). Works (Ok z) t t' before after l other) (is' ∙ sym is) q) fail of of'
+  read_alike words s s' t t' old new before after k l work other (Err memory) again is is' given r q fail of of' = absurd (subst (λ w. IsOfStores w k) r.0 of)
+  read_alike words s s' t t' old new before after k l work other (Ok x) (Err memory) is is' given r q fail of of' = absurd (subst (λ w. IsOfStores w l) q.0 of')
+
   -- What is done by the same words.
   pub works_alike : WorksAreAlike
-  works_alike None s s' t t' old new before after k l work other given r q fail of of' = (end_same work other _ _ r.0 q.0 refl, hold_left k new after (hold_same old new before after given.hold r.2 q.2))
-  works_alike (Some (Info root)) s s' t t' old new before after k l work other given r q fail of of' =
-      informs_alike root old new before after k l r.0.opened q.0.opened work other given.hold fail of of' r.0.asks q.0.asks r.0.told q.0.told r.0.opens r.0.asked q.0.opens q.0.asked
-  works_alike (Some (Solo script slots)) s s' t t' old new before after k l work other given r q fail of of' = reads_alike slots s s' t t' old new before after k l r.read q.read work other given r.reads q.reads r.follows q.follows fail of of'
+  works_alike words s s' t t' old new before after k l work other given r q fail of of' =
+      read_alike words s s' t t' old new before after k l work other r.read q.read r.reads q.reads given r.works q.works fail of of'

@@ -4,6 +4,8 @@ use Rattle.arr_history.specs.declared.event.Event.{Event}
 use Rattle.cell_grid.specs.declared.level.Level.{Level}
 use Rattle.cell_store.specs.Store.{Contents}
 use Rattle.cell_store.specs.Stream.{Stream}
+use Rattle.command_words.specs.Request.{request_in}
+use Rattle.command_words.specs.declared.request.Request.TheVariants.{Solo}
 use Rattle.fetchers.specs.declared.served.Served.{Served}
 use Rattle.run_report.specs.declared.report.Report.{Report}
 use Rattle.run_report.specs.declared.report.Unwritten.{Unwritten}
@@ -13,14 +15,12 @@ use Rattle.team_run.specs.Range.{commands_over}
 use Rattle.team_run.specs.Run.{IsWithinSlotLimits}
 use Rattle.view_script.specs.declared.script.Script.{Script}
 use Rattle.volatile_cell.specs.Asked.{Asked}
-use Rattle.viewrun_calls.specs.declared.words.Request.TheVariants.{Solo}
 use Rattle.viewrun_calls.specs.declared.work.Done.TheVariants.{Ran}
 use Rattle.viewrun_calls.specs.Call.{CarriesOut}
 use Rattle.viewrun_calls.specs.Pictures.{WritesPictures}
 use Rattle.viewrun_calls.specs.Script.{ReadsScript}
 use Rattle.viewrun_calls.specs.Stores.{FirstChanges}
 use Rattle.viewrun_calls.specs.Volume.{OpensVolume, keys_of}
-use Rattle.viewrun_calls.specs.Words.{request_in}
 
 -- These words ran a script, which left this report and these pictures unwritten.
 pub record RunsScript (words : List (List ℕ)) (source source' : Stream) (old new : List Contents) (report : Report) (unwritten : List Unwritten) : Type 0 where

@@ -5,7 +5,7 @@ pub mod Pictures
 pub mod Script
 pub mod Stores
 pub mod Volume
-pub mod Words
+pub mod Named
 pub mod Work
 pub mod OneFunction
 pub mod Clean

@@ -1,5 +1,5 @@
 -- A call is one function of its words, of its script, of what the stores hold, and of which calls of the stores failed or found no memory.
-use Rattle.std.specs.Prelude.{◌≡◌, ℕ, IsTrue, List, Option, Result, Err}
+use Rattle.std.specs.Prelude.{◌≡◌, ℕ, IsTrue, List, Result, Err}
 use Rattle.std.specs.List.{list_any}
 use Rattle.cell_store.specs.Store.{Contents}
 use Rattle.cell_store.specs.Stream.{Stream}
@@ -8,11 +8,10 @@ use Rattle.run_report.specs.declared.stop.Stop.{Stop}
 use Rattle.run_report.specs.declared.stop.Stop.TheVariants as stop
 use Rattle.store_calls.specs.Calls.{StoreCall, FailAlike, wants_memory}
 use Rattle.alike_runs.specs.Holding.{HoldAlike, LeftAlike}
-use Rattle.viewrun_calls.specs.declared.words.Request.{Request}
 use Rattle.viewrun_calls.specs.declared.work.Done.{Done}
 use Rattle.viewrun_calls.specs.Call.{CarriesOut}
 use Rattle.viewrun_calls.specs.Ending.{text_of, status_of}
-use Rattle.viewrun_calls.specs.Work.{Works}
+use Rattle.viewrun_calls.specs.Work.{ReadsAndWorks}
 
 -- Two calls are given the same script, and stores that hold the same. Their sources and stores tell.
 pub record AreGivenAlike (source other : Stream) (stores others : List Contents) : Type 0 where
@@ -35,8 +34,8 @@ pub record EndAlike (work other : Result Done Stop) : Type 0 where
 
 -- What is done by the same words, over the same script and stores that hold the same, with calls of the stores that fail alike.
 abbrev pub WorksAreAlike : Type 0
-WorksAreAlike = (request : Option Request) (s s' t t' : Stream) (old new before after : List Contents) (k l : List StoreCall) (work other : Result Done Stop)
-    → AreGivenAlike s t old before → Works request s s' old new k work → Works request t t' before after l other → FailAlike k l → IsOfStores work k → IsOfStores other l
+WorksAreAlike = (words : List (List ℕ)) (s s' t t' : Stream) (old new before after : List Contents) (k l : List StoreCall) (work other : Result Done Stop)
+    → AreGivenAlike s t old before → ReadsAndWorks words s s' old new k work → ReadsAndWorks words t t' before after l other → FailAlike k l → IsOfStores work k → IsOfStores other l
     → EndAlike work other × LeftAlike k new after
 
 -- Every other call of these words that is given the same, and whose calls of the stores fail alike, ends alike: its text, which tells the replies, the counts

@@ -1,8 +1,12 @@
 -- What a call does by what its words ask for, in the order of work: the script, its volume, the slots, the run.
-use Rattle.std.specs.Prelude.{◌≡◌, ℕ, ◌+◌, List, [], ◌∷◌, ◌++◌, Option, Some, None, Result, Ok, Err}
+use Rattle.std.specs.Prelude.{◌≡◌, ℕ, ◌+◌, List, [], ◌∷◌, ◌++◌, Option, Some, None, Result, Ok, Err, IfOk}
+use Rattle.std.specs.declared.alloc.AllocError.{AllocError}
 use Rattle.cell_grid.specs.declared.level.Level.{Level}
 use Rattle.cell_store.specs.Store.{Contents}
 use Rattle.cell_store.specs.Stream.{Stream}
+use Rattle.command_words.specs.Request.{request_in}
+use Rattle.command_words.specs.declared.request.Request.{Request}
+use Rattle.command_words.specs.declared.request.Request.TheVariants.{Info, Solo, Run, Demo}
 use Rattle.n5_meta.specs.Asks.{AsksPyramid}
 use Rattle.n5_meta.specs.declared.open_err.OpenErr.{OpenErr}
 use Rattle.run_report.specs.declared.report.Report.{Report}
@@ -15,8 +19,6 @@ use Rattle.store_calls.specs.Calls.{StoreCall, AreCalled}
 use Rattle.team_run.specs.Range.{commands_over}
 use Rattle.team_run.specs.Run.{IsRunOf, IsWithinSlotLimits, SoloAnswers, fault_replies, fault_servings, run_calls}
 use Rattle.view_script.specs.declared.script.Script.{Script}
-use Rattle.viewrun_calls.specs.declared.words.Request.{Request}
-use Rattle.viewrun_calls.specs.declared.words.Request.TheVariants.{Info, Solo}
 use Rattle.viewrun_calls.specs.declared.work.Done.{Done}
 use Rattle.viewrun_calls.specs.declared.work.Done.TheVariants.{Levels, Ran}
 use Rattle.viewrun_calls.specs.Pictures.{PutsShots, PutsWith, WritesPictures, failed_pictures}
@@ -92,8 +94,22 @@ pub record ReadsAndRuns (slots : ℕ) (source source' : Stream) (old new : List 
   pub few : TakesFew source source'
   pub follows : FollowsReading slots old new calls read work
 
--- What is done by what is asked for, with its calls of the stores. Words that ask for nothing touch neither the source nor a store, and `info` not the source.
-abbrev pub Works : Option Request → Stream → Stream → List Contents → List Contents → List StoreCall → Result Done Stop → Type 0
-Works None source source' old new calls work = (work ≡ Err stop.Usage) × (source' ≡ source) × (new ≡ old) × (calls ≡ [])
-Works (Some (Info root)) source source' old new calls work = Informs root old new calls work × (source' ≡ source)
-Works (Some (Solo script slots)) source source' old new calls work = ReadsAndRuns slots source source' old new calls work
+-- Nothing was done: neither the source nor a store was touched.
+abbrev pub Stops : Stop → Stream → Stream → List Contents → List Contents → List StoreCall → Result Done Stop → Type 0
+Stops stop source source' old new calls work = (work ≡ Err stop) × (source' ≡ source) × (new ≡ old) × (calls ≡ [])
+
+-- What is done on one thread by what is asked for, with its calls of the stores. Words that ask for nothing touch neither the source nor a store, nor do
+-- those that ask for more threads, nor words that found no memory when they were read; `info` doesn't touch the source.
+abbrev pub Works : Result (Option Request) AllocError → Stream → Stream → List Contents → List Contents → List StoreCall → Result Done Stop → Type 0
+Works (Ok None) source source' old new calls work = Stops stop.Usage source source' old new calls work
+Works (Ok (Some (Info root))) source source' old new calls work = Informs root old new calls work × (source' ≡ source)
+Works (Ok (Some (Solo script slots))) source source' old new calls work = ReadsAndRuns slots source source' old new calls work
+Works (Ok (Some (Run script slots fetchers))) source source' old new calls work = Stops stop.Usage source source' old new calls work
+Works (Ok (Some (Demo number))) source source' old new calls work = Stops stop.Usage source source' old new calls work
+Works (Err memory) source source' old new calls work = Stops stop.Memory source source' old new calls work
+
+-- The words were read, and then what they ask for was done.
+pub record ReadsAndWorks (words : List (List ℕ)) (source source' : Stream) (old new : List Contents) (calls : List StoreCall) (work : Result Done Stop) : Type 0 where
+  pub read : Result (Option Request) AllocError
+  pub reads : IfOk read (λ request. request ≡ request_in words)
+  pub works : Works read source source' old new calls work

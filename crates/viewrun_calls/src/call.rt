@@ -1,7 +1,7 @@
 // The call that the program makes.
 ghost use Rattle.std.specs.Prelude.{◌≤◌, map, vec_len};
+ghost use Rattle.command_words.specs.Request.{texts};
 ghost use Rattle.viewrun_calls.specs.Alone.{IsCall};
-ghost use Rattle.viewrun_calls.specs.Words.{texts};
 
 use crate::ending::end;
 use crate::laws::clean_calls_are_one;

@@ -4,15 +4,14 @@
 mod call;
 mod ending;
 mod laws;
+mod named;
 mod pictures;
 mod solo;
 mod source;
 mod volume;
-mod word;
-mod words;
 mod work;
 
 pub use call::{Ended, viewrun_alone};
 pub use laws::clean_calls_are_one;
+pub use named::script_name;
 pub use pictures::put_shots;
-pub use words::script_name;

@@ -1,5 +1,5 @@
 // The run of a script on one thread: what is read, opened and run, and the first refusal in this order.
-ghost use Rattle.std.specs.Prelude.{◌≡◌, ◌≤◌, List, [], Err, length, map, vec_capacity, vec_len};
+ghost use Rattle.std.specs.Prelude.{◌≡◌, ◌≤◌, List, [], length, map, vec_capacity, vec_len};
 ghost use Rattle.store_calls.specs.Calls.{StoreCall};
 ghost use Rattle.view_script.specs.Script.{IsScript};
 ghost use Rattle.viewrun_calls.specs.Pictures.{PutsShots};
@@ -10,7 +10,7 @@ ghost use Rattle.viewrun_calls.specs.Work.{OpensAndRuns, ReadsAndRuns, RunsOpen,
 use crate::pictures::{put_shots, view_count};
 use crate::source::script_of;
 use crate::volume::{open_volume, volume_keys};
-use crate::work::{Done, Worked};
+use crate::work::{Done, Worked, stopped};
 use cell_grid::Geometry;
 use cell_store::{Source, Store};
 use plain_data::Items;
@@ -117,12 +117,4 @@ fn put_in_first<S: Store>(
     ensures { FirstChanges (λ before after. PutsShots shots.now before after unwritten.new.items) (map S.contents stores.old.items) (map S.contents stores.new.items) }
 {
     put_shots(alloc, &mut stores[0], shots, unwritten);
-}
-
-fn stopped<S>(stop: Stop, stores: Vec<S>) -> Worked<S>
-    ensures work { result.work ≡ Err stop }
-    ensures stores { result.stores ≡ stores }
-{
-    let work = Err(stop);
-    Worked { work, stores }
 }

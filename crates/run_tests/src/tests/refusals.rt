@@ -117,8 +117,8 @@ fn slots_outside_the_limits_are_refused(rt: HostRuntime) -> Result<(), Fail> {
     expect_all(&rt, rt.alloc(), &cases)
 }
 
-/// Words that ask for nothing that is known.
-const OTHER_WORDS: [&[&str]; 9] = [
+/// Words that ask for nothing that is known, or for more threads than one.
+const OTHER_WORDS: [&[&str]; 13] = [
     &[],
     &["info"],
     &["info", "../pyr"],
@@ -126,8 +126,12 @@ const OTHER_WORDS: [&[&str]; 9] = [
     &["solo", "s"],
     &["solo", "s", "--slots", "1234567890"],
     &["solo", "s", "--slots", "+2"],
-    &["solo", "--slots", "2", "s"],
     &["solo", "s", "--slots", "2", "s"],
+    &["solo", "s", "--slots", "2", "--slots", "2"],
+    &["solo", "-s", "--slots", "2"],
+    &["solo", "s", "--slots", "x"],
+    &["run", "s", "--slots", "2", "--fetchers", "0"],
+    &["demo", "1"],
 ];
 
 #[test]
@@ -145,13 +149,22 @@ fn other_words_are_answered_with_the_usage(rt: HostRuntime) -> Result<(), Fail> 
     Ok(())
 }
 
+/// Words with the script that they name.
+const NAMING_WORDS: [(&[&str], Option<&str>); 6] = [
+    (&["solo", "s", "--slots", "2"], Some("s")),
+    (&["solo", "--slots=2", "--", "-s"], Some("-s")),
+    (&["run", "--fetchers", "0", "t", "--slots", "2"], Some("t")),
+    (&["info", "pyr"], None),
+    (&["demo", "1"], None),
+    (&["solo", "-s", "--slots", "2"], None),
+];
+
 #[test]
 fn the_words_name_a_script(rt: HostRuntime) -> Result<(), Fail> {
-    let solo = words_of(rt.alloc(), SOLO.words)?;
-    let name = script_name(solo.as_slice())?;
-    assert!(rt; name.is_some_and(|name| name == "s"));
-    let info = words_of(rt.alloc(), &["info", "pyr"])?;
-    let name = script_name(info.as_slice())?;
-    assert!(rt; name.is_none());
+    for (words, named) in NAMING_WORDS {
+        let words = words_of(rt.alloc(), words)?;
+        let name = script_name(rt.alloc(), words.as_slice())?;
+        assert!(rt; name == named);
+    }
     Ok(())
 }

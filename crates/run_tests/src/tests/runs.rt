@@ -35,6 +35,30 @@ fn commands_are_answered_and_cells_come_and_go(rt: HostRuntime) -> Result<(), Fa
     expect_all(&rt, rt.alloc(), &cases)
 }
 
+/// Two gets of a voxel, over two slots.
+const GETS: Case = Case {
+    script: "raw vol uint8 6 2 2 2 2 2\nphase\nactor\nget 0 0 0 0\nget 0 0 0 0\n",
+    text: "0.0.0 value 0\n0.0.1 value 0\ntally hits 1 misses 1 loads 1 evictions 0 writebacks 0 closed 1\n",
+    ..SOLO
+};
+
+#[test]
+fn options_and_the_script_stand_in_any_order(rt: HostRuntime) -> Result<(), Fail> {
+    let cases = [
+        Case {
+            shows: "an option stands before the script, with its value behind `=`",
+            words: &["solo", "--slots=2", "s"],
+            ..GETS
+        },
+        Case {
+            shows: "the script stands behind `--`",
+            words: &["solo", "--slots", "2", "--", "s"],
+            ..GETS
+        },
+    ];
+    expect_all(&rt, rt.alloc(), &cases)
+}
+
 /// A get of the cell of 1 x 1 x 1 at the end of each axis, in cells of 4 x 4 x 4.
 const LAST_CELL: Case = Case {
     script: "raw vol uint8 5 5 5 4 4 4\nphase\nactor\nget 0 4 4 4\n",
