@@ -44,7 +44,7 @@ use Rattle.team_run.specs.Desk.{DeskLeads, desk, first_queue}
 use Rattle.team_run.specs.Faults.{fault_replies, fault_servings}
 use Rattle.team_run.specs.Headline.{IsUnnamed, IsHeadline}
 use Rattle.team_run.specs.Plain.{ArePlain, IsPlainRun}
-use Rattle.team_run.specs.Run.{Completes, IsRunOf}
+use Rattle.team_run.specs.Run.{Completes, IsRunOf, KeepsKeys}
 use Rattle.team_run.proofs.CommandsOf.{run_commands}
 use Rattle.team_run.proofs.Histories.{serves_lead, all_told, all_counted}
 use Rattle.team_run.proofs.NotFull.{serves_not_full}
@@ -253,6 +253,10 @@ module _ (laws : KeptLaws) (grow : TalliesGrow) (levels : List Level) (keys : Ke
   shown_now : (P : Contents → Type 0) (n : ℕ) → P (store_of d n) → P (store_in now (lane_of n (length now)))
   shown_now P n = subst (λ (s : List Contents). P (store_in s (lane_of n (length s)))) r.ends
 
+  keeps : KeepsKeys c.levels c.shown now all
+  keeps lane key told clean = subst (λ (s : List Contents). held_of (store_in s lane) key ≡ held_of (store_in c.shown lane) key) r.ends
+      (moves.stores.kept lane key told (λ n inside at same. (laws shape start all sound led.legal).unput n refl (clean n inside at same)))
+
   headline : IsHeadline c.levels c.keys (length c.slots) c.shown now run r.closing r.trace.servings report
   headline = record {
     legal = led.legal;
@@ -274,8 +278,7 @@ module _ (laws : KeptLaws) (grow : TalliesGrow) (levels : List Level) (keys : Ke
         let void_now : (shape_of d).is_void n ≡ true = sym (moves.shape.void n inside told) ∙ sym (like.void n inside told) ∙ empty in
         shown_now (λ s. IsVoid (λ k. voxels_of c.levels k) (standing c.levels c.keys) (held_of s) n) n
         (sym (ap (λ (l : List Level). standing l c.keys (held_of (store_of d n)) n) moves.levels) ∙ sym (ap (λ (k : KeyNames). standing d.levels k (held_of (store_of d n)) n) moves.keys) ∙ nothing_stands (slot_of d n) (stands d n) void_now);
-    kept = λ lane key told clean. subst (λ (s : List Contents). held_of (store_in s lane) key ≡ held_of (store_in c.shown lane) key) r.ends
-        (moves.stores.kept lane key told (λ n inside at same. (laws shape start all sound led.legal).unput n refl (clean n inside at same)));
+    kept = λ lane key told clean. keeps lane key told (λ n inside at same. clean n inside same);
     puts = λ n inside told. shown_now (λ s. puts_under (edited_key c.levels n) s.log ≡ puts_under (edited_key c.levels n) (store_of c n).log + count_by (saves n) all) n (moves.stores.put_count n inside told);
     gets = λ n inside told. shown_now (λ s. gets_under (edited_key c.levels n) (store_of c n).log + count_by (loads n) all ≤ gets_under (edited_key c.levels n) s.log) n (moves.stores.get_count n inside told);
     licensed = licensed;
@@ -294,12 +297,12 @@ module _ (laws : KeptLaws) (grow : TalliesGrow) (levels : List Level) (keys : Ke
         same = λ n inside told i few. seen.1.1 n inside told i few ∙ sym (last_led.reached.arrays n inside told i few) ∙ sym (ap (λ f. f n i) quiet);
       }
 
-  -- both, of the levels, keys and slots that the cache was made with
-  abbrev Both : List Level → KeyNames → ℕ → Type 0
-  Both l k n = IsHeadline l k n c.shown now run r.closing r.trace.servings report × IsPlainRun l k n commands c.shown all report
+  -- all, of the levels, keys and slots that the cache was made with
+  abbrev Told : List Level → KeyNames → ℕ → Type 0
+  Told l k n = IsHeadline l k n c.shown now run r.closing r.trace.servings report × IsPlainRun l k n commands c.shown all report × KeepsKeys l c.shown now all
 
-  both : Both levels keys slots
-  both = subst (λ (n : ℕ). Both levels keys n) o.slot_count (subst (λ (k : KeyNames). Both levels k (length c.slots)) o.keys_are (subst (λ (l : List Level). Both l c.keys (length c.slots)) o.levels_are (headline, plain)))
+  told : Told levels keys slots
+  told = subst (λ (n : ℕ). Told levels keys n) o.slot_count (subst (λ (k : KeyNames). Told levels k (length c.slots)) o.keys_are (subst (λ (l : List Level). Told l c.keys (length c.slots)) o.levels_are (headline, plain, keeps)))
 
   pub run_of : IsRunOf levels keys slots commands c.shown now report
   run_of = record {
@@ -307,8 +310,9 @@ module _ (laws : KeptLaws) (grow : TalliesGrow) (levels : List Level) (keys : Ke
     opened = o;
     begins = refl;
     completes = r;
-    headline = both.0;
+    headline = told.0;
+    kept = told.2;
     commands_are = run_commands levels (desk c (first_queue levels)) r.last o.levels_are commands report.replies r.trace report.shots r.shots r.served;
     queue = lead.queue;
-    plain = both.1;
+    plain = told.1;
   }

@@ -16,7 +16,7 @@ use Rattle.cell_file.specs.declared.errors.AcquireErr.TheVariants.{Full}
 use Rattle.cell_file.specs.Keys.{KeyNames, edited_key}
 use Rattle.cell_file.specs.Standing.{standing}
 use Rattle.cell_grid.specs.declared.level.Level.{Level}
-use Rattle.cell_grid.specs.Pyramid.{cells_of, voxels_of, lane_of}
+use Rattle.cell_grid.specs.Pyramid.{cells_of, voxels_of}
 use Rattle.cell_store.specs.Store.{Contents, held_of}
 use Rattle.fetchers.specs.declared.served.Served.{Served}
 use Rattle.run_report.specs.declared.reply.Answer.{Answer}
@@ -60,7 +60,7 @@ pub record IsHeadline (levels : List Level) (keys : KeyNames) (slots : ℕ) (bef
       → IsVoid (λ c. voxels_of levels c) (standing levels keys) (held_of (store_for (length now) now n)) n
   -- a key changes only where it is the edited key of a cell that was marked
   pub kept : (lane : ℕ) (key : List ℕ) → IsTrue (store_in before lane).told
-      → ((n : ℕ) → n < cells_of levels → lane_of n (length before) ≡ lane → bytes_eq (edited_key levels n) key ≡ true → list_any (marks n) (run ++ closing) ≡ false)
+      → ((n : ℕ) → n < cells_of levels → bytes_eq (edited_key levels n) key ≡ true → list_any (marks n) (run ++ closing) ≡ false)
       → held_of (store_in now lane) key ≡ held_of (store_in before lane) key
   -- where the log is told, as many puts were done as cells went saved, and at least as many gets as cells went live
   pub puts : (n : ℕ) → n < cells_of levels → IsTrue (store_for (length before) before n).told_log

@@ -1,13 +1,16 @@
 -- What a run of a script is: its commands carried out over one cache, which is shut then.
-use Rattle.std.specs.Prelude.{◌≡◌, ◌⊎◌, ℕ, ◌/◌, ◌^◌, ◌<◌, ◌≤◌, max, min, length, List, [], ◌++◌, true, Result, Ok, Err}
+use Rattle.std.specs.Prelude.{◌≡◌, ◌⊎◌, ℕ, ◌/◌, ◌^◌, ◌<◌, ◌≤◌, max, min, length, IsTrue, List, [], ◌++◌, true, false, Result, Ok, Err}
+use Rattle.std.specs.List.{list_any}
 use Rattle.std.specs.List.Sorted.{IsPermutation}
+use Rattle.std.specs.Str.{bytes_eq}
 use Rattle.arr_history.specs.declared.closed.Unsaved.{Unsaved}
 use Rattle.arr_history.specs.declared.event.Event.{Event}
+use Rattle.arr_history.specs.Laws.{marks}
 use Rattle.arr_history.specs.Tally.{tally_raised}
-use Rattle.cell_file.specs.Keys.{KeyNames}
+use Rattle.cell_file.specs.Keys.{KeyNames, edited_key}
 use Rattle.cell_grid.specs.declared.level.Level.{Level}
-use Rattle.cell_grid.specs.Pyramid.{frame_of}
-use Rattle.cell_store.specs.Store.{Contents}
+use Rattle.cell_grid.specs.Pyramid.{cells_of, frame_of, lane_of}
+use Rattle.cell_store.specs.Store.{Contents, held_of}
 use Rattle.fetch_queue.specs.Queue.{Queue}
 use Rattle.run_report.specs.declared.report.Report.{Report}
 use Rattle.sole_cache.specs.Cached.{Cached}
@@ -16,6 +19,7 @@ use Rattle.sole_cache.specs.Open.{IsOpened}
 use Rattle.sole_cache.specs.Puts.{ArePut}
 use Rattle.sole_cache.specs.Shut.{AreClosed}
 use Rattle.sole_cache.specs.Valid.{IsCache}
+use Rattle.stood_arrays.specs.Opening.{store_in}
 use Rattle.store_calls.specs.Calls.{StoreCall, AreCalled}
 use Rattle.team_run.specs.declared.ran.RunErr.{RunErr}
 use Rattle.team_run.specs.declared.ran.RunErr.TheVariants.{Memory, Slots}
@@ -42,6 +46,12 @@ IsWithinSlotLimits levels slots = (low ≤ slots) × (slots ≤ high_of levels)
 
 abbrev pub IsOutsideSlotLimits : List Level → ℕ → Type 0
 IsOutsideSlotLimits levels slots = (slots < low) ⊎ (high_of levels < slots)
+
+-- A key of a store changes only where it is the edited key of a cell of that store that was marked.
+abbrev pub KeepsKeys : List Level → List Contents → List Contents → List Event → Type 0
+KeepsKeys levels before now events = (lane : ℕ) (key : List ℕ) → IsTrue (store_in before lane).told
+    → ((n : ℕ) → n < cells_of levels → lane_of n (length before) ≡ lane → bytes_eq (edited_key levels n) key ≡ true → list_any (marks n) events ≡ false)
+    → held_of (store_in now lane) key ≡ held_of (store_in before lane) key
 
 -- How one cache and its queue carry commands out, each once and in order, and how the cache is shut then; its stores show this in the end.
 pub record Completes (first : Desk) (commands : List NumberedCommand) (after : List Contents) (report : Report) : Type 0 where
@@ -80,6 +90,8 @@ pub record IsRunOf (levels : List Level) (keys : KeyNames) (slots : ℕ) (comman
   pub completes : Completes (desk first (first_queue levels)) commands after report
   -- what every run is, over whatever cache
   pub headline : IsHeadline levels keys slots before after completes.trace.events completes.closing completes.trace.servings report
+  -- and each store was put into under the keys of its own cells alone
+  pub kept : KeepsKeys levels before after (completes.trace.events ++ completes.closing)
   -- its events and its calls of the queue are those of its commands, each once and in order, by pass 0; the queue has one history, which is those calls
   pub commands_are : AreCommandsOf true 0 levels commands report.replies report.shots completes.trace.servings completes.trace.events completes.trace.calls
   pub queue : AskedFrom (first_queue levels) completes.trace.calls completes.last.queue

@@ -1,15 +1,14 @@
 // Fetches.
 ghost use Rattle.std.specs.Prelude.{◌≡◌, ◌<◌, []};
 ghost use Rattle.team_run.specs.Desk.{IsReady, desk};
-ghost use Rattle.team_run.specs.Fetches.{fetch_answer};
 ghost use Rattle.team_run.specs.Serve.{AnswersTask};
 ghost use Rattle.view_script.specs.declared.command.Command.TheVariants.{Fetch};
 
-use cell_file::AcquireErr;
+use crate::outcomes::answer_of_fetch;
 use cell_store::Store;
 use fetch_queue::Queues;
-use fetchers::{Fetched, Memory, serve_up_to};
-use run_report::{Answer, Refusal};
+use fetchers::serve_up_to;
+use run_report::Answer;
 use sole_cache::SoleCache;
 use sole_eyes::SoleEyes;
 
@@ -26,24 +25,5 @@ pub fn fetch<S: Store>(
     ensures ready { IsReady (desk cache.new queue.new) }
 {
     let mut eyes = SoleEyes::new(cache, queue, viewer);
-    answer_of(serve_up_to(&mut eyes, count))
-}
-
-fn answer_of(fetched: Result<Fetched, Memory>) -> Answer
-    ensures { result ≡ fetch_answer fetched }
-{
-    match fetched {
-        Ok(
-            Fetched {
-                loaded,
-                held,
-                refused,
-            },
-        ) => Answer::Fetched {
-            loaded,
-            held,
-            refused,
-        },
-        Err(_) => Answer::Refused(Refusal::Acquire(AcquireErr::Memory)),
-    }
+    answer_of_fetch(serve_up_to(&mut eyes, count))
 }

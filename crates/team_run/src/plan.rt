@@ -53,8 +53,8 @@ fn plan_phase(
     Ok(())
 }
 
-/// Adds the tasks of an actor.
-fn plan_actor(
+/// Adds the tasks of an actor of a phase. Views show 0 to a value, where one is given.
+pub fn plan_actor(
     alloc: Global,
     top: Option<u64>,
     phase: u32,

@@ -9,17 +9,16 @@ ghost use Rattle.scale_pick.specs.Wanted.{wanted_level};
 ghost use Rattle.team_run.specs.Desk.{IsReady, desk, desk_front};
 ghost use Rattle.team_run.specs.Serve.{AnswersTask};
 ghost use Rattle.team_run.specs.Task.{HasSides};
-ghost use Rattle.team_run.specs.Views.{HasLevel, LacksLevel};
+ghost use Rattle.team_run.specs.Views.{HasLevel};
 ghost use Rattle.view_script.specs.declared.command.Command.TheVariants as command;
 ghost use Rattle.view_script.specs.Script.{IsViewWithinLimits};
 
-use crate::serve::Outcome;
+use crate::outcomes::{Outcome, answer_with_shot, lacks_level};
 use cell_file::AcquireErr;
-use cell_grid::Geometry;
 use cell_store::Store;
 use fetch_queue::Queues;
 use hier_paint::{Painted, Picture, View, paint};
-use run_report::{Answer, Refusal, Shot};
+use run_report::{Answer, Refusal};
 use sole_cache::SoleCache;
 use sole_eyes::SoleEyes;
 use view_script::Name;
@@ -42,37 +41,11 @@ pub fn show<S: Store>(
     ensures one { length (option_to_list result.shot) ≡ 1 }
 {
     if lacks_level(cache.geometry(), &view) {
-        return outcome(Answer::Refused(Refusal::Outside), name, picture, false);
+        return answer_with_shot(Answer::Refused(Refusal::Outside), name, picture, false);
     }
     match frame(cache, queue, viewer, &view, &mut picture) {
-        Ok(painted) => outcome(Answer::Frame(painted), name, picture, true),
-        Err(err) => outcome(Answer::Refused(Refusal::Acquire(err)), name, picture, false),
-    }
-}
-
-fn outcome(answer: Answer, name: Name, picture: Picture, shown: bool) -> Outcome
-    ensures answer { result.answer ≡ answer }
-    ensures shot { option_to_list result.shot ≡ record { name = name; picture = picture; shown = shown } ∷ [] }
-{
-    let shot = Shot {
-        name,
-        picture,
-        shown,
-    };
-    Outcome {
-        answer,
-        shot: Some(shot),
-    }
-}
-
-/// Whether a view gives a level that doesn't exist.
-fn lacks_level(geometry: &Geometry, view: &View) -> bool
-    ensures lacks { IsTrue result → LacksLevel geometry.now view.now }
-    ensures has { result ≡ false → HasLevel geometry.now view.now }
-{
-    match view.level {
-        Some(level) => level >= geometry.levels(),
-        None => false,
+        Ok(painted) => answer_with_shot(Answer::Frame(painted), name, picture, true),
+        Err(err) => answer_with_shot(Answer::Refused(Refusal::Acquire(err)), name, picture, false),
     }
 }
 

@@ -62,8 +62,8 @@ pub fn solo_run<S: Store>(
     }
 }
 
-/// The most slots that a volume's greatest cell allows.
-fn most_slots(geometry: &Geometry) -> u64
+/// The most slots that a volume's greatest cell allows, for any run.
+pub fn most_slots(geometry: &Geometry) -> u64
     ensures { result ≡ high_of geometry.now }
 {
     let frame = u64::from(geometry.frame());

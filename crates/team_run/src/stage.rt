@@ -1,6 +1,8 @@
 // What is set up before the first command of a run.
 ghost use Rattle.std.specs.Prelude.{◌≡◌, IfOk, IfSome, count_by, ◌<◌};
 ghost use Rattle.view_script.specs.Script.{IsScript};
+ghost use Rattle.cell_grid.specs.Pyramid.{IsPyramid};
+ghost use Rattle.team_run.specs.Desk.{first_queue};
 ghost use Rattle.team_run.specs.Range.{top_for};
 ghost use Rattle.team_run.specs.Stage.{IsSetUp};
 ghost use Rattle.team_run.specs.Task.{is_view};
@@ -33,13 +35,7 @@ pub fn set_up(alloc: Global, geometry: &Geometry, script: Script) -> Result<Stag
     requires { IsScript script }
     ensures { IfOk result (IsSetUp geometry.now script) }
 {
-    let queue = Queues::new(
-        alloc,
-        VIEWERS,
-        geometry.cells(),
-        geometry.levels(),
-        PREFETCH,
-    )?;
+    let queue = empty_queue(alloc, geometry)?;
     let top = top_for(geometry, script.range);
     let plan = plan(alloc, top, script.phases)?;
     let replies = Vec::with_capacity(alloc, plan.len())?;
@@ -52,8 +48,22 @@ pub fn set_up(alloc: Global, geometry: &Geometry, script: Script) -> Result<Stag
     })
 }
 
+/// The queue of a run before its first command.
+pub fn empty_queue(alloc: Global, geometry: &Geometry) -> Result<Queues, AllocError>
+    ensures queue { IfOk result (λ queue. queue ≡ first_queue geometry.now) }
+    ensures pyramid { IfOk result (λ _. IsPyramid geometry.now) }
+{
+    Queues::new(
+        alloc,
+        VIEWERS,
+        geometry.cells(),
+        geometry.levels(),
+        PREFETCH,
+    )
+}
+
 /// The value up to which views show, where they have no range of their own: the greatest of the first level's kind.
-fn top_for(geometry: &Geometry, range: Option<[u64; 2]>) -> Option<u64>
+pub fn top_for(geometry: &Geometry, range: Option<[u64; 2]>) -> Option<u64>
     ensures top { result ≡ top_for range geometry.now }
     ensures positive { IfSome result (λ top. 0 < top) }
 {
@@ -65,7 +75,7 @@ fn top_for(geometry: &Geometry, range: Option<[u64; 2]>) -> Option<u64>
 }
 
 /// How many tasks are views.
-fn view_count(plan: &[Due]) -> usize
+pub fn view_count(plan: &[Due]) -> usize
     ensures { result ≡ count_by (λ d. is_view d.task) plan.now }
 {
     plan.iter().filter(|due| is_view(&due.task)).count()

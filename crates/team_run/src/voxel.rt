@@ -4,11 +4,11 @@ ghost use Rattle.arr_history.specs.declared.event.Event.{Event};
 ghost use Rattle.sole_cache.specs.Cached.{handles_out};
 ghost use Rattle.sole_cache.specs.Moves.{Runs};
 ghost use Rattle.store_calls.specs.Calls.{StoreCall};
-ghost use Rattle.team_run.specs.Serve.{refusal_in, IsGot, IsPutTask};
+ghost use Rattle.team_run.specs.Serve.{IsGot, IsPutTask};
 
-use cell_file::CellErr;
+use crate::outcomes::refusal_of;
 use cell_store::Store;
-use run_report::{Answer, Refusal};
+use run_report::Answer;
 use sole_cache::SoleCache;
 
 /// Answers the value of a voxel.
@@ -32,15 +32,5 @@ pub fn set<S: Store>(cache: &mut SoleCache<S>, level: u8, pos: [u64; 3], value: 
     match cache.set(level, pos, value) {
         Ok(()) => Answer::Done,
         Err(err) => Answer::Refused(refusal_of(err)),
-    }
-}
-
-fn refusal_of(err: CellErr) -> Refusal
-    ensures { result ≡ refusal_in err }
-{
-    match err {
-        CellErr::Outside => Refusal::Outside,
-        CellErr::TooLarge { value } => Refusal::TooLarge { value },
-        CellErr::Acquire(err) => Refusal::Acquire(err),
     }
 }

@@ -9,13 +9,13 @@ use Rattle.team_run.proofs.show.show.Goals as goal
 pub returns-then-lacks_level-clause-answers : goal.returns-then-lacks_level-clause-answers
 returns-then-lacks_level-clause-answers g c =
     let now = desk c.args.cache.now c.args.queue.now in
-    rw (c.outcome.ensures.answer, c.outcome.ensures.shot) (no_level_answers now now c.args.viewer c.args.view (record { name = c.args.name; picture = c.args.picture; shown = false }) (subst (λ (levels : List Level). LacksLevel levels c.args.view) c.geometry.ensures (c.if-lacks_level.ensures.lacks refl)) refl)
+    rw (c.answer_with_shot.ensures.answer, c.answer_with_shot.ensures.shot) (no_level_answers now now c.args.viewer c.args.view (record { name = c.args.name; picture = c.args.picture; shown = false }) (subst (λ (levels : List Level). LacksLevel levels c.args.view) c.geometry.ensures (c.if-lacks_level.ensures.lacks refl)) refl)
 
 pub returns-in-Ok-clause-answers : goal.returns-in-Ok-clause-answers
 returns-in-Ok-clause-answers g c =
     let before = desk c.args.cache.now c.args.queue.now in
     let after = desk c.frame.new.cache c.frame.new.queue in
-    rw (c.outcome-in-Ok.ensures.answer, c.outcome-in-Ok.ensures.shot)
+    rw (c.answer_with_shot-in-Ok.ensures.answer, c.answer_with_shot-in-Ok.ensures.shot)
     (frame_answers before after c.args.viewer c.args.view (record { name = c.args.name; picture = c.frame.new.picture; shown = true }) c.in-Ok.painted (subst (λ (levels : List Level). HasLevel levels c.args.view) c.geometry.ensures (c.if-lacks_level.ensures.has refl)) refl c.in-Ok.ensures.filled
     c.in-Ok.ensures.painted c.in-Ok.ensures.blocking c.in-Ok.ensures.frame)
 
@@ -23,5 +23,5 @@ pub returns-in-Err-clause-answers : goal.returns-in-Err-clause-answers
 returns-in-Err-clause-answers g c =
     let before = desk c.args.cache.now c.args.queue.now in
     let after = desk c.frame.new.cache c.frame.new.queue in
-    rw (c.outcome-in-Err.ensures.answer, c.outcome-in-Err.ensures.shot)
+    rw (c.answer_with_shot-in-Err.ensures.answer, c.answer_with_shot-in-Err.ensures.shot)
     (cut_answers before after c.args.viewer c.args.view (record { name = c.args.name; picture = c.frame.new.picture; shown = false }) c.in-Err.err (subst (λ (levels : List Level). HasLevel levels c.args.view) c.geometry.ensures (c.if-lacks_level.ensures.has refl)) refl c.in-Err.ensures.cut_off)

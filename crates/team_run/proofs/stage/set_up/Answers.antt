@@ -1,18 +1,14 @@
--- A volume has cells, and what is set up is what was made.
+-- What is set up is what was made.
 use Rattle.std.proofs.Common.{◌≡◌, ◌∙◌, ℕ, Option, count_by, map, refl, subst, ap, arith}
 use Rattle.team_run.specs.declared.task.Due.{Due}
 use Rattle.team_run.specs.Range.{commands_of_phases, ranged}
 use Rattle.team_run.specs.Task.{is_view, numbered}
-use Rattle.team_run.proofs.VolumeLemmas.{some_cells}
 use Rattle.team_run.proofs.stage.set_up.Goals as goal
-
-pub new-requires-clause-some_cells : goal.new-requires-clause-some_cells
-new-requires-clause-some_cells c = rw (c.cells.ensures.count) (some_cells _ c.cells.ensures.pyramid)
 
 pub returns : goal.returns
 returns c = record {
-  pyramid = c.cells.ensures.pyramid;
-  queue = c.in_ok-queue.ensures ∙ rw (c.cells.ensures.count, c.levels.ensures.count) refl;
+  pyramid = c.in_ok-queue.ensures.pyramid;
+  queue = c.in_ok-queue.ensures.queue;
   plan = subst (λ (top : Option ℕ). map numbered c.in_ok-plan.plan.items ≡ commands_of_phases (map (map (map (ranged top))) c.args.script.phases)) c.top_for-top.ensures.top c.in_ok-plan.ensures.planned;
   due = c.in_ok-plan.ensures.due;
   no_replies = c.in_ok-replies.ensures.items;
