@@ -1,0 +1,4 @@
+pub mod Rises
+pub mod Causes
+pub mod Deeds
+pub mod Answers
