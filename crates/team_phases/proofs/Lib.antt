@@ -1,0 +1,7 @@
+pub mod Zipping
+pub mod Rising
+pub mod Acting
+pub mod LostLemmas
+pub mod Readying
+pub mod Played
+pub mod AllPlayed

@@ -1,0 +1,5 @@
+pub mod Phases
+pub mod Plays
+pub mod Changes
+pub mod Working
+pub mod Playing
