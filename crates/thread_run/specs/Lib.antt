@@ -1,0 +1,4 @@
+pub mod Headlines
+pub mod Frames
+pub mod Run
+pub mod Carried
