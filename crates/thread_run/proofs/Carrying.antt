@@ -1,6 +1,6 @@
 -- A run by threads, from how it was carried out.
 use Rattle.std.proofs.Common.{◌≡◌, ◌∙◌, ℕ, ◌+◌, ◌≤◌, All, List, [], ◌++◌, map, Option, refl, sym, ap, subst, arith}
-use Rattle.std.proofs.lemmas.List.{append-nil, append_cancel_left}
+use Rattle.std.proofs.lemmas.List.{append-nil, append_cancel_left, length-map}
 use Rattle.arr_history.specs.declared.event.Event.{Event}
 use Rattle.arr_history.specs.History.{AreLegal, pass_of}
 use Rattle.cell_file.specs.Keys.{KeyNames}
@@ -85,6 +85,7 @@ module _ (shown_moments : HistoriesShowMoments) (machine : HistoriesAreAsked) {S
     trail_is = r.shut.history_is;
     servings = r.served;
     headline = headline;
+    lanes = length-map stores shows ∙ r.shut.settled.count ∙ sym (length-map (made_of t).stores.value.items shows);
     replies = r.replies;
     shots = r.shots;
     deeds = r.deeds;

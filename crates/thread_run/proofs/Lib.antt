@@ -6,3 +6,9 @@ pub mod Beyond
 pub mod Shut
 pub mod NeverFull
 pub mod Carrying
+pub mod Fewest
+pub mod Answering
+pub mod Starting
+pub mod Flattening
+pub mod Leaving
+pub mod Finished

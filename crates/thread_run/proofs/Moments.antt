@@ -1,5 +1,5 @@
 -- Whatever a pass painted shows moments of a legal history: those between its events.
-use Rattle.std.proofs.Common.{◌≡◌, ◌∙◌, inl, inr, ℕ, ◌+◌, ◌<◌, Bool, true, false, true≢false, ◌||◌, List, ◌++◌, refl, sym, ap, subst, slice_index, arith}
+use Rattle.std.proofs.Common.{◌≡◌, ◌∙◌, inl, inr, ℕ, ◌<◌, Bool, true, false, true≢false, ◌||◌, List, ◌++◌, refl, sym, ap, subst, slice_index, arith}
 use Rattle.std.specs.List.{list_any}
 use Rattle.std.proofs.lemmas.List.Folds.{list_any-append}
 use Rattle.std.proofs.lemmas.Nat.{mul-add-lt}

@@ -1,5 +1,5 @@
 -- What a run by threads is: phases of actors beside fetchers, over one cache that they share, which is shut then.
-use Rattle.std.specs.Prelude.{◌≡◌, ◌⊎◌, ℕ, ◌+◌, ◌<◌, ◌≤◌, List, ◌++◌, map, Option, None, Some, Result, Ok, Err}
+use Rattle.std.specs.Prelude.{◌≡◌, ◌⊎◌, ℕ, ◌<◌, ◌≤◌, List, ◌++◌, length, map, Option, None, Some, Result, Ok, Err}
 use Rattle.std.specs.List.Sorted.{IsPermutation}
 use Rattle.arr_history.specs.declared.closed.Unsaved.{Unsaved}
 use Rattle.arr_history.specs.declared.event.Event.{Event}
@@ -41,6 +41,8 @@ pub record IsThreadRun (levels : List Level) (keys : KeyNames) (slots fetchers :
   -- what the fetches of actors served
   pub servings : List Served
   pub headline : IsHeadline levels keys slots before after history closing servings report
+  -- each store came back
+  pub lanes : length after ≡ length before
   -- each actor's commands, each once and in order, with their replies and their pictures, phase by phase
   pub replies : List (List (List Reply))
   pub shots : List (List (List Shot))
