@@ -6,8 +6,8 @@ mod PictureLemmas
 mod PutLemmas
 mod RunLemmas
 mod SourceLemmas
-mod StoresLemmas
-mod ViewLemmas
+pub mod StoresLemmas
+pub mod ViewLemmas
 mod WrittenLemmas
 mod CalledLemmas
 mod OpenLemmas

@@ -26,7 +26,7 @@ use Rattle.viewrun_calls.specs.Pictures.{is_view_command, view_count}
 abbrev pub shot_name : Shot → List ℕ
 shot_name s = s.name
 
-abbrev numbered_name : NumberedCommand → List (List ℕ)
+abbrev pub numbered_name : NumberedCommand → List (List ℕ)
 numbered_name c = name_of c.command
 
 one_name : (old new : Desk) (viewer : ℕ) (command : Command) (told : Answer) (t : Trace) → IsServed old viewer command told t new → map shot_name t.shots ≡ name_of command
@@ -93,11 +93,14 @@ unfolding view_names
 ranged_names top phases = parts_changed (flat_map (flat_map name_of)) (map (map (ranged top)))
     (λ actors. parts_changed (flat_map name_of) (map (ranged top)) (λ commands. parts_changed name_of (ranged top) (same_name top) commands) actors) phases
 
+-- the names of the views among a script's commands over a volume
+pub commands_named : (levels : List Level) (script : Script) → flat_map numbered_name (commands_over levels script) ≡ view_names script.phases
+commands_named levels script = phases_names (map (map (map (ranged (top_for script.range levels)))) script.phases) ∙ ranged_names (top_for script.range levels) script.phases
+
 pub names_of_views : (levels : List Level) (keys : KeyNames) (slots : ℕ) (script : Script) (before after : List Contents) (report : Report)
     → IsRunOf levels keys slots (commands_over levels script) before after report → map shot_name report.shots ≡ view_names script.phases
 names_of_views levels keys slots script before after report run =
-    ap (map shot_name) run.completes.shots ∙ shots_named _ _ _ _ _ run.completes.served ∙ phases_names (map (map (map (ranged (top_for script.range levels)))) script.phases)
-    ∙ ranged_names (top_for script.range levels) script.phases
+    ap (map shot_name) run.completes.shots ∙ shots_named _ _ _ _ _ run.completes.served ∙ commands_named levels script
 
 -- how many they are
 sum_same : {X : Type 0} (f g : X → ℕ) → ((x : X) → f x ≡ g x) → (xs : List X) → sum_by f xs ≡ sum_by g xs
@@ -110,7 +113,7 @@ one_view (Set level pos x) = refl
 one_view (View name view) = refl
 one_view (Fetch count) = refl
 
-views_counted : (phases : List (List (List Command))) → length (view_names phases) ≡ view_count phases
+pub views_counted : (phases : List (List (List Command))) → length (view_names phases) ≡ view_count phases
 unfolding view_names
 views_counted phases = length-flat_map (flat_map (flat_map name_of)) phases ∙ sum_same _ (sum_by (count_by is_view_command))
     (λ actors. length-flat_map (flat_map name_of) actors ∙ sum_same _ (count_by is_view_command)

@@ -3,7 +3,7 @@ ghost use Rattle.std.specs.Prelude.{◌≤◌, map, vec_len};
 ghost use Rattle.command_words.specs.Request.{texts};
 ghost use Rattle.viewrun_calls.specs.Alone.{IsCall};
 
-use crate::ending::end;
+use crate::ending::end_call;
 use crate::laws::clean_calls_are_one;
 use crate::work::{Worked, work};
 use alike_runs::runs_are_alike;
@@ -39,6 +39,6 @@ pub fn viewrun_alone<S: Store, R: Source, K: Sink>(
     openings_are_alike();
     clean_calls_are_one();
     let Worked { work, stores } = work(alloc, words, script, stores);
-    let status = end(alloc, out, &work);
+    let status = end_call(alloc, out, &work);
     Ended { status, stores }
 }

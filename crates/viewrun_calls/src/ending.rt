@@ -10,7 +10,7 @@ use run_report::{PrintErr, Stop, info_text, print_bytes};
 use std::alloc::{AllocError, Global};
 
 /// Writes the text of what was done, and gives the status.
-pub fn end<K: Sink>(alloc: Global, out: &mut K, work: &Result<Done, Stop>) -> u8
+pub fn end_call<K: Sink>(alloc: Global, out: &mut K, work: &Result<Done, Stop>) -> u8
     ensures { Ends work.now (K.stream out.old) (K.stream out.new) result }
 {
     match print(alloc, out, work) {

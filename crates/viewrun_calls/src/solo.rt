@@ -87,7 +87,7 @@ fn run_open<S: Store>(
 }
 
 /// Puts the pictures of a report into the first store. There is room for the names of all.
-fn write_shots<S: Store>(
+pub fn write_shots<S: Store>(
     alloc: Global,
     report: Report,
     mut unwritten: Vec<Unwritten>,

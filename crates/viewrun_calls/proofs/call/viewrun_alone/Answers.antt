@@ -10,7 +10,7 @@ pub returns : goal.returns
 returns g c =
     let done = c.work-work.ensures in
     let words = texts c.args.words.now in record {
-      call = record { work = c.work-work.result.work; calls = done.0; called = works_called done.1.read _ _ _ _ done.0 _ done.1.works; works = done.1; ends = c.end-status.ensures };
+      call = record { work = c.work-work.result.work; calls = done.0; called = works_called done.1.read _ _ _ _ done.0 _ done.1.works; works = done.1; ends = c.end_call-status.ensures };
       headline = λ report unwritten is. call_headline words _ _ _ _ _ report unwritten done.0 done.1 is;
       one_function = λ other other' stores left start end code again given fail of of'.
           works_alike c.runs_are_alike.ensures c.openings_are_alike.ensures words _ _ other other' _ _ stores left done.0 again.calls _ again.work given done.1 again.works fail of of';
