@@ -1,0 +1,5 @@
+-- Lemmas of the call by threads.
+mod WordLemmas
+mod PlayedNames
+mod RunLemmas
+mod HeadlineLemmas
