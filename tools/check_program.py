@@ -5,8 +5,9 @@
 
 It shows what no contract can say, since a folder is outside: an edit survives its eviction and a second run; a file where
 the folder of edited cells should be is a fault that changes no other file; a view's picture is written, and put again over
-an old one that was longer; where the folder of pictures can't be, the picture is named; scripts without a last line end,
-without a byte, and of one byte too many get their statuses at once. `.ci/run` runs it after `rt ci`.
+an old one that was longer; where the folder of pictures can't be, the picture is named; six actors on threads edit and read
+three cells, and too few slots for them are refused; scripts without a last line end, without a byte, and of one byte too
+many get their statuses at once. `.ci/run` runs it after `rt ci`.
 """
 import os
 import subprocess
@@ -45,12 +46,15 @@ class Folder:
     def pictures(self):
         return {name: data for name, data in self.files().items() if name.startswith("views")}
 
+    def call(self, *words):
+        """What a call writes, and its status."""
+        done = subprocess.run([self.program, *words], cwd=self.path, capture_output=True, timeout=60, check=False)
+        expect("standard error", done.stderr, b"")
+        return done.stdout.decode(), done.returncode
+
     def run(self, script, status, text):
         self.write("script", script)
-        done = subprocess.run([self.program, "solo", "script", "--slots", "2"], cwd=self.path, capture_output=True, timeout=20, check=False)
-        expect("status", done.returncode, status)
-        expect("text", done.stdout.decode(), text)
-        expect("standard error", done.stderr, b"")
+        expect("text and status", self.call("solo", "script", "--slots", "2"), (text, status))
 
 
 def expect(what, found, wanted):
@@ -111,6 +115,21 @@ def a_picture_that_fails_is_named(program):
     expect("the edited cell", folder.files()["cells/s0/0/0/0"], EDITED)
 
 
+def threads_edit_and_read(program):
+    folder = Folder(program)
+    phases = [[f"set 0 {actor} {row} 0 {10 * actor + row}" for row in (0, 1)] for actor in range(6)], [[f"get 0 {actor} {row} 0" for row in (0, 1)] for actor in range(6)]
+    folder.write("script", HEAD + "".join("phase\n" + "".join("actor\n" + "\n".join(commands) + "\n" for commands in phase) for phase in phases))
+    replies = [f"0.{actor}.{row} done" for actor in range(6) for row in (0, 1)] + [f"1.{actor}.{row} value {10 * actor + row}" for actor in range(6) for row in (0, 1)]
+    for again in (1, 2):
+        text, status = folder.call("run", "script", "--slots", "16", "--fetchers", "3")
+        expect("the status of run", status, 0)
+        expect("the replies of run", text.splitlines()[:-1], replies)
+    written = {name: data[16:] for name, data in folder.files().items() if name.startswith("cells")}
+    wanted = {f"cells/s0/{cell}/0/0": bytes([20 * cell, 20 * cell + 10, 20 * cell + 1, 20 * cell + 11, 0, 0, 0, 0]) for cell in range(3)}
+    expect("the edited cells of run", written, wanted)
+    expect("too few slots", folder.call("run", "script", "--slots", "15", "--fetchers", "3"), ("slots 15 outside 16 to 4096\n", 9))
+
+
 def scripts_get_their_statuses(program):
     folder = Folder(program)
     folder.run(HEAD.rstrip("\n"), 0, NOTHING)
@@ -126,6 +145,7 @@ def main():
     a_put_that_fails_names_the_cell(program)
     a_picture_is_put_again(program)
     a_picture_that_fails_is_named(program)
+    threads_edit_and_read(program)
     scripts_get_their_statuses(program)
     print("the program over real folders: as it is to be")
 

@@ -23,8 +23,14 @@ from put_trials import Script, Trial, library
 KINDS = ["open", "stat", "mkdir", "read", "write", "seek", "truncate", "close", "remove"]
 ERRORS = {"EIO": errno.EIO, "ENOSPC": errno.ENOSPC, "EINTR": errno.EINTR}
 
-# sides of the cells, cells, numbers that are set, numbers of earlier runs, whether a picture is put
-SCRIPTS = [(2, 4, [5], [], False), (2, 4, [5, 6], [9], True), (20, 4, [5, 6], [9], False)]
+# sides of the cells, cells, numbers that are set, numbers of earlier runs, whether a picture is put, actors on threads
+SCRIPTS = [
+    (2, 4, [5], [], False, None),
+    (2, 4, [5, 6], [9], True, None),
+    (20, 4, [5, 6], [9], False, None),
+    (2, 12, [5, 6], [], True, 2),
+    (20, 12, [5], [9], False, 2),
+]
 
 
 def named(text, cells):
@@ -38,8 +44,8 @@ def named(text, cells):
 def fault_runs(program, preload):
     """Answers how many runs had a fault, and what was wrong."""
     runs, wrong = 0, []
-    for index, (side, cells, numbers, earlier, picture) in enumerate(SCRIPTS):
-        script = Script(side, cells, numbers, picture)
+    for index, (side, cells, numbers, earlier, picture, actors) in enumerate(SCRIPTS):
+        script = Script(side, cells, numbers, picture, actors)
         for kind in KINDS:
             deeds = {name: str(number) for name, number in ERRORS.items()}
             if kind in ("read", "write"):
@@ -99,7 +105,7 @@ def faults_at_once(program):
                 os.chdir(os.path.dirname(path))
                 socket.socket(socket.AF_UNIX).bind(os.path.basename(path))
                 os.chdir(place)
-            text = trial.script.text() if "views" in key else trial.script.head() + "get 0 0 0 0\n"
+            text = trial.script.text() if "views" in key else trial.script.head() + "actor\nget 0 0 0 0\n"
             status = trial.run(text, seconds=10).returncode
             if status != (5 if "views" in key else 1):
                 wrong.append(f"a {kind} under {key}: status {status}")
@@ -118,9 +124,8 @@ def faults_at_once(program):
 
 
 def limited(trial, limit):
-    with open(os.path.join(trial.path, "script"), "w", encoding="ascii") as file:
-        file.write(trial.script.text())
-    words = [trial.program, "solo", "script", "--slots", "2"]
+    trial.write_script(trial.script.text())
+    words = [trial.program, *trial.script.words()]
     return subprocess.run(words, cwd=trial.path, capture_output=True, timeout=60, check=False, preexec_fn=limit)
 
 

@@ -3,10 +3,11 @@
 
     tools/kill_program.py [PROGRAM] [RUNS]    (PROGRAM is crates/viewrun/out/viewrun; RUNS is 500)
 
-First RUNS runs are killed by SIGKILL at random moments: blocks of 8 KB and of 2 MB, that exist and that don't. Then ten
-scripts are stopped at each of their calls on files in turn, before the call, and in the middle of each write, by a library
-that is preloaded (stop_at_call.c): that needs no luck. After each the next run reads all voxels, and then each block must
-be whole, and no other file may be left. It needs gcc, and a few minutes. No part of the gate.
+First RUNS runs are killed by SIGKILL at random moments: blocks of 8 KB and of 2 MB, that exist and that don't, on one
+thread and by two actors. Then twelve scripts are stopped at each of their calls on files in turn, before the call, and in
+the middle of each write, by a library that is preloaded (stop_at_call.c): that needs no luck. After each the next run reads
+all voxels, and then each block must be whole, and no other file may be left. It needs gcc, and a few minutes. No part of
+the gate.
 """
 import os
 import random
@@ -17,18 +18,20 @@ import n5
 from put_trials import Script, Trial, library
 
 
-# sides of the cells, cells, numbers that are set, numbers of earlier runs, whether a picture is put
+# sides of the cells, cells, numbers that are set, numbers of earlier runs, whether a picture is put, actors on threads
 SCRIPTS = [
-    (2, 4, [5], [], False),
-    (2, 4, [5, 6], [], False),
-    (2, 3, [5], [9], False),
-    (2, 4, [5, 6, 7], [9], False),
-    (20, 4, [5], [], False),
-    (20, 4, [5, 6], [9], False),
-    (20, 3, [5, 6, 7], [], True),
-    (20, 3, [5], [9], True),
-    (64, 3, [5, 6], [], False),
-    (64, 3, [5, 6], [9], True),
+    (2, 4, [5], [], False, None),
+    (2, 4, [5, 6], [], False, None),
+    (2, 3, [5], [9], False, None),
+    (2, 4, [5, 6, 7], [9], False, None),
+    (20, 4, [5], [], False, None),
+    (20, 4, [5, 6], [9], False, None),
+    (20, 3, [5, 6, 7], [], True, None),
+    (20, 3, [5], [9], True, None),
+    (64, 3, [5, 6], [], False, None),
+    (64, 3, [5, 6], [9], True, None),
+    (2, 12, [5, 6], [9], False, 2),
+    (20, 16, [5, 6], [], True, 4),
 ]
 
 
@@ -37,7 +40,8 @@ def at_random(program, runs):
     killed, wrong, random_moment = 0, [], random.Random(7)
     for run in range(runs):
         side, rounds = (20, 40) if run % 2 == 0 else (128, 3)
-        trial = Trial(program, Script(side, 4, list(range(1, rounds + 1))), [99] if run % 4 < 2 else [])
+        cells, actors = (4, None) if run % 8 < 4 else (12, 2)
+        trial = Trial(program, Script(side, cells, list(range(1, rounds + 1)), actors=actors), [99] if run % 4 < 2 else [])
         began = trial.begin(trial.script.text())
         time.sleep(random_moment.uniform(0.002, 0.06 if side == 20 else 0.12))
         began.kill()
@@ -50,10 +54,10 @@ def at_random(program, runs):
 def at_each_call(program, preload):
     """Ends each script at each call in turn. Answers how many runs were ended, and what was wrong."""
     ended, wrong = 0, []
-    for index, (side, cells, numbers, earlier, picture) in enumerate(SCRIPTS):
+    for index, (side, cells, numbers, earlier, picture, actors) in enumerate(SCRIPTS):
         for kind, does in [("any", "kill"), ("write", "half")]:
             for number in range(1, 100000):
-                trial = Trial(program, Script(side, cells, numbers, picture), earlier)
+                trial = Trial(program, Script(side, cells, numbers, picture, actors), earlier)
                 told = {**os.environ, "LD_PRELOAD": preload, "CALL_KIND": kind, "CALL_NUMBER": str(number), "CALL_DOES": does}
                 status = trial.run(trial.script.text(), told).returncode
                 what = trial.wrong_after_next_run()

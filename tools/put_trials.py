@@ -28,14 +28,20 @@ def library():
 
 
 class Script:
-    """A script that sets voxels of each of `cells` cells of side `side`, once for each of `numbers`."""
+    """A script that sets voxels of each of `cells` cells of side `side`, once for each of `numbers`: on one thread, or by so
+    many `actors` on threads, each with cells of its own, beside a fetcher."""
 
-    def __init__(self, side, cells, numbers, picture=False):
-        self.side, self.cells, self.numbers, self.picture = side, cells, numbers, picture
+    def __init__(self, side, cells, numbers, picture=False, actors=None):
+        self.side, self.cells, self.numbers, self.picture, self.actors = side, cells, numbers, picture, actors
+
+    def words(self):
+        if self.actors is None:
+            return ["solo", "script", "--slots", "2"]
+        return ["run", "script", "--slots", str(2 * self.actors + 2), "--fetchers", "1"]
 
     def head(self):
         side = self.side
-        return f"raw vol uint8 {side * self.cells} {side} {side} {side} {side} {side}\nphase\nactor\n"
+        return f"raw vol uint8 {side * self.cells} {side} {side} {side} {side} {side}\nphase\n"
 
     def places(self):
         """Voxels of a cell, spread over its whole block."""
@@ -47,17 +53,19 @@ class Script:
         return f"{cell * side + place % side} {place // side % side} {place // side**2}"
 
     def text(self):
-        lines = [self.head()]
-        for number in self.numbers:
-            for cell in range(self.cells):
-                lines += [f"set 0 {self.at(cell, place)} {number}\n" for place in self.places()]
+        lines, actors = [self.head()], self.actors or 1
+        for actor in range(actors):
+            lines.append("actor\n")
+            for number in self.numbers:
+                for cell in range(actor, self.cells, actors):
+                    lines += [f"set 0 {self.at(cell, place)} {number}\n" for place in self.places()]
         if self.picture:
             lines.append("view shot 4 4 0 blocking 1 1 0 0 0 1 0 0 0 0\n")
         return "".join(lines)
 
     def reading(self):
         gets = [f"get 0 {self.at(cell, place)}\n" for cell in range(self.cells) for place in self.places()]
-        return self.head() + "".join(gets)
+        return self.head() + "actor\n" + "".join(gets)
 
     def block(self, number):
         data = bytearray(self.side**3)
@@ -80,16 +88,18 @@ class Trial:
     def remove(self):
         shutil.rmtree(self.path, True)
 
-    def run(self, text, told=None, seconds=60):
+    def write_script(self, text):
         with open(os.path.join(self.path, "script"), "w", encoding="ascii") as file:
             file.write(text)
-        words = [self.program, "solo", "script", "--slots", "2"]
+
+    def run(self, text, told=None, seconds=60):
+        self.write_script(text)
+        words = [self.program, *self.script.words()]
         return subprocess.run(words, cwd=self.path, env=told, capture_output=True, timeout=seconds, check=False)
 
     def begin(self, text):
-        with open(os.path.join(self.path, "script"), "w", encoding="ascii") as file:
-            file.write(text)
-        words = [self.program, "solo", "script", "--slots", "2"]
+        self.write_script(text)
+        words = [self.program, *self.script.words()]
         return subprocess.Popen(words, cwd=self.path, stdout=subprocess.DEVNULL, stderr=subprocess.DEVNULL)
 
     def files(self):

@@ -32,9 +32,9 @@ static long whole(const char *name) {
 static int is_meant(const char *kind) {
     const char *counted = getenv("CALL_KIND");
     if (!counted || (strcmp(counted, "any") != 0 && strcmp(counted, kind) != 0)) return 0;
-    made += 1;
+    long here = __atomic_add_fetch(&made, 1, __ATOMIC_SEQ_CST);
     long number = whole("CALL_NUMBER");
-    return number > 0 && (made == number || (made > number && getenv("CALL_FROM")));
+    return number > 0 && (here == number || (here > number && getenv("CALL_FROM")));
 }
 
 static const char *deed(void) {
