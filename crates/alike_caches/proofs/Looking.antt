@@ -1,16 +1,13 @@
--- Looks and reads of caches that are alike.
-use Rattle.std.proofs.Common.{◌≡◌, ◌∙◌, ℕ, false, List, [], ◌∷◌, None, Some, Result, refl, sym, ap, subst}
-use Rattle.std.specs.declared.result.Result.TheVariants as outcome
-use Rattle.arr_history.specs.declared.cell_state.Seen.{Seen}
+-- What is found and read in caches that are alike.
+use Rattle.std.proofs.Common.{◌≡◌, ◌∙◌, ℕ, List, [], ◌∷◌, None, Some, sym}
 use Rattle.arr_history.specs.declared.event.Event.{Event}
 use Rattle.arr_history.specs.declared.event.Event.TheVariants.{Read}
 use Rattle.arr_history.specs.Legal.{IsLegal}
 use Rattle.sole_cache.specs.Cached.{Cached, slot_of, state_of, shape_of}
 use Rattle.sole_cache.specs.Handle.{Handle}
-use Rattle.sole_cache.specs.Pieces.{IsHit, IsLook}
-use Rattle.sole_cache.specs.Acquires.{Quiet, Looks}
+use Rattle.sole_cache.specs.Pieces.{IsHit}
+use Rattle.sole_cache.specs.Acquires.{Quiet}
 use Rattle.alike_caches.specs.Alike.{AreAlike}
-use Rattle.alike_caches.proofs.After.{quiet_alike}
 use Rattle.alike_caches.proofs.Seats.{some_same, none_some, slot_of_same, slot_in_second, told_first, told_second}
 
 -- a live cell isn't absent in the other
@@ -27,23 +24,6 @@ handle_same g h cell slot loaded = λ i. record { cell = cell i; slot = slot i; 
 pub hit_same : (c d : Cached) (cell : ℕ) (g h : Handle) (e f : List Event) → AreAlike c d → g.cell ≡ cell → h.cell ≡ cell → IsHit c cell g e → IsHit d cell h f → (h ≡ g) × (f ≡ e)
 hit_same c d cell g h e f a there here p q =
     (handle_same g h (here ∙ sym there) (some_same h.slot g.slot (sym q.live ∙ slot_of_same c d a cell ∙ p.live)) (q.found ∙ sym p.found), q.events_are ∙ sym p.events_are)
-
--- the answers of two looks
-look_same : (c d : Cached) (cell : ℕ) (r s : Result Handle Seen) (e f : List Event) → AreAlike c d → IsLook c cell r e → IsLook d cell s f → (s ≡ r) × (f ≡ e)
-look_same c d cell (outcome.Ok g) (outcome.Ok h) e f a p q = let same = hit_same c d cell g h e f a p.0 q.0 p.1 q.1 in (ap outcome.Ok same.0, same.1)
-look_same c d cell (outcome.Ok g) (outcome.Err seen) e f a p q = absurd (not_absent_second c d cell g.slot a p.1.live q.1.0)
-look_same c d cell (outcome.Err seen) (outcome.Ok h) e f a p q = absurd (not_absent_first c d cell h.slot a p.1.0 q.1.live)
-look_same c d cell (outcome.Err seen) (outcome.Err also) e f a p q = (ap outcome.Err (q.0 ∙ sym p.0), q.1.1 ∙ sym p.1.1)
-
--- no cell leaves by a look
-look_quiet : (c : Cached) (cell : ℕ) (r : Result Handle Seen) (e : List Event) → IsLook c cell r e → Rattle.std.specs.List.list_any Rattle.arr_history.specs.Tally.is_writeback e ≡ false
-look_quiet c cell (outcome.Ok g) e p = rw p.1.events_are refl
-look_quiet c cell (outcome.Err seen) e p = rw p.1.1 refl
-
-pub looks_alike : (c d c' d' : Cached) (cell : ℕ) (r s : Result Handle Seen) (e f : List Event) → AreAlike c d → Looks c cell r e c' → Looks d cell s f d' → (s ≡ r) × (f ≡ e) × AreAlike c' d'
-looks_alike c d c' d' cell r s e f a p q =
-    let same = look_same c d cell r s e f a p.is q.is in
-    (same.0, same.1, quiet_alike c d c' d' e (look_quiet c cell r e p.is) a p.quiet (subst (λ x. Quiet d x d') same.1 q.quiet))
 
 -- A voxel that is read in both has the same number.
 pub read_same : (c d : Cached) (cell at x y : ℕ) → AreAlike c d → IsLegal (shape_of c) (state_of c) (Read 0 cell at x) → IsLegal (shape_of d) (state_of d) (Read 0 cell at y) → y ≡ x

@@ -8,13 +8,12 @@ use Rattle.cell_file.specs.declared.errors.CellErr.{CellErr}
 use Rattle.store_calls.specs.Calls.{StoreCall, AreCalled, FailAlike}
 use Rattle.cell_store.specs.Store.{Contents}
 use Rattle.arr_history.specs.declared.closed.Unsaved.{Unsaved}
-use Rattle.arr_history.specs.declared.cell_state.Seen.{Seen}
 use Rattle.arr_history.specs.declared.event.Event.{Event}
 use Rattle.arr_history.specs.declared.event.Event.TheVariants.{Read}
 use Rattle.arr_history.specs.Tally.{is_writeback}
 use Rattle.sole_cache.specs.Cached.{Cached}
 use Rattle.sole_cache.specs.Handle.{Handle}
-use Rattle.sole_cache.specs.Acquires.{Acquires, Quiet, Looks, GetsVoxel, SetsVoxel}
+use Rattle.sole_cache.specs.Acquires.{Acquires, Quiet, GetsVoxel, SetsVoxel}
 use Rattle.sole_cache.specs.Puts.{ArePut}
 use Rattle.alike_caches.specs.Alike.{AreAlike, AreAlikeBut}
 
@@ -23,10 +22,6 @@ abbrev pub AcquiresAreAlike : Type 0
 AcquiresAreAlike = (c d c' d' : Cached) (cell : ℕ) (r s : Result Handle AcquireErr) (e f : List Event) (k l m n : List StoreCall)
     → AreAlike c d → cell < cells_of c.levels → Acquires c cell r e k c' → Acquires d cell s f l d' → FailAlike (k ++ m) (l ++ n)
     → (s ≡ r) × (f ≡ e) × AreAlike c' d' × FailAlike m n
-
--- So do looks for a cell.
-abbrev pub LooksAreAlike : Type 0
-LooksAreAlike = (c d c' d' : Cached) (cell : ℕ) (r s : Result Handle Seen) (e f : List Event) → AreAlike c d → Looks c cell r e c' → Looks d cell s f d' → (s ≡ r) × (f ≡ e) × AreAlike c' d'
 
 -- Reads of a voxel give the same number.
 abbrev pub ReadsAreAlike : Type 0

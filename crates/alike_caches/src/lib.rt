@@ -2,16 +2,11 @@
 //! calls fail. There is no code to run here.
 #![tactic(auto)]
 
-ghost use Rattle.alike_caches.specs.Laws.{AcquiresAreAlike, LooksAreAlike, ReadsAreAlike, QuietIsAlike, GetsAreAlike, SetsAreAlike, ShutsAreAlike};
+ghost use Rattle.alike_caches.specs.Laws.{AcquiresAreAlike, ReadsAreAlike, QuietIsAlike, GetsAreAlike, SetsAreAlike, ShutsAreAlike};
 
 /// Acquires of a cell give the same answer by the same events, and leave caches that are alike.
 pub fn acquires_are_alike()
     ensures { AcquiresAreAlike }
-{}
-
-/// So do looks for a cell.
-pub fn looks_are_alike()
-    ensures { LooksAreAlike }
 {}
 
 /// Reads of a voxel give the same number.

@@ -15,7 +15,7 @@ use Rattle.fetchers.specs.Servings.{goes_on, IsAnswer}
 use Rattle.alike_caches.specs.Alike.{AreAlike}
 use Rattle.alike_frames.specs.Servings.{ServesAll, FetchesAreAlike}
 use Rattle.alike_frames.proofs.Tandem.{AlikeLaws}
-use Rattle.alike_frames.proofs.Serving.{servings_are_alike}
+use Rattle.alike_frames.proofs.Serving.{serving_alike}
 
 -- the servings of a fetch of so many requests, from one on: it goes on while they do, and there are requests left
 abbrev AreFetch : ℕ → List Served → Type 0
@@ -111,7 +111,7 @@ all_alike laws (s ∷ servings) (o ∷ others) count c d c' d' q r t e f u v k l
     (mid, between, first, rest, taken, more, made, ahead, serves, are, e_is, u_is, k_is) (mid', between', first', rest', taken', more', made', ahead', serves', are', f_is, v_is, l_is) fail =
     let joined : FailAlike (made ++ (ahead ++ m)) (made' ++ (ahead' ++ n)) =
     subst₂ FailAlike (ap (λ (x : List StoreCall). x ++ m) k_is ∙ append_assoc made ahead m) (ap (λ (x : List StoreCall). x ++ n) l_is ∙ append_assoc made' ahead' n) fail in
-    let on = servings_are_alike laws c d mid mid' q between between' s o first first' taken taken' made made' (ahead ++ m) (ahead' ++ n) alike serves serves' joined in
+    let on = serving_alike laws c d mid mid' q between between' s o first first' taken taken' made made' (ahead ++ m) (ahead' ++ n) alike serves serves' joined in
     let left = ahead_of count s o servings others on.0 h.1 g.1 in
     let r = all_alike laws servings others left.0 mid mid' c' d' between r t rest rest' more more' ahead ahead' m n left.1 left.2 on.3 are (subst (λ b. ServesAll mid' b others rest' more' ahead' d' t) on.4 are') on.5 in (
       ap₂ (λ (a : Served) (b : List Served). a ∷ b) on.0 r.0,

@@ -21,14 +21,10 @@ use Rattle.fetchers.specs.declared.served.Served.TheVariants.{Idle, Held, Loaded
 use Rattle.fetchers.specs.declared.fetched.Fetched.{Fetched}
 use Rattle.fetchers.specs.Servings.{IsGrantedServing, IsRefusedServing, IsServing, AreServings, IsAnswer}
 use Rattle.alike_caches.specs.Alike.{AreAlike}
-use Rattle.alike_frames.specs.Frames.{ShowSame, Paints, CutsOff}
-use Rattle.alike_frames.specs.Servings.{Grants, Refuses, Serves, ServesAll}
-use Rattle.alike_frames.proofs.Tandem.{AlikeLaws}
+use Rattle.alike_frames.specs.Frames.{ShowSame, Paints, CutsOff, FramesAreAlike, FramesAskAlike}
+use Rattle.alike_frames.specs.Servings.{Grants, Refuses, Serves, ServesAll, FetchesAreAlike}
 use Rattle.alike_frames.proofs.Peeling.{nothing_left}
 use Rattle.alike_frames.proofs.Refusing.{one_piece}
-use Rattle.alike_frames.proofs.Closing.{frames_are_alike}
-use Rattle.alike_frames.proofs.Asking.{frames_ask_alike}
-use Rattle.alike_frames.proofs.Fetching.{fetches_are_alike}
 use Rattle.volatile_cell.specs.Front.{Looker, Front}
 use Rattle.sole_eyes.specs.SoleEyes.{sole}
 
@@ -136,75 +132,75 @@ module _ {E : Type 0} (front : Front E) (cache : E → Cached) (queue : E → Qu
     refl,
   )
 
-  same_asked : (e e' d d' : E) (view : View) (events others : List Event) (calls told : List Asked) → KeepsRule view (front.looker e).viewer (front.looker e).levels events calls → KeepsRule view (front.looker d).viewer (front.looker d).levels others told
+  same_asked : FramesAskAlike → (e e' d d' : E) (view : View) (events others : List Event) (calls told : List Asked) → KeepsRule view (front.looker e).viewer (front.looker e).levels events calls → KeepsRule view (front.looker d).viewer (front.looker d).levels others told
       → AskedFrom (queue e) calls (queue e') → AskedFrom (queue d) told (queue d') → AreAlike (cache e) (cache d) → queue d ≡ queue e → (front.looker d).viewer ≡ (front.looker e).viewer → others ≡ events → (told ≡ calls) × (queue d' ≡ queue e')
-  same_asked e e' d d' view events others calls told rule keeps led went alike one_queue one_viewer same =
+  same_asked ask e e' d d' view events others calls told rule keeps led went alike one_queue one_viewer same =
       let one_pyramid : (front.looker d).levels ≡ (front.looker e).levels = levels_are d ∙ alike.levels ∙ sym (levels_are e) in
       let kept : KeepsRule view (front.looker e).viewer (front.looker e).levels events told =
       subst (λ (es : List Event). KeepsRule view (front.looker e).viewer (front.looker e).levels es told) same (subst₂ (λ w (ls : List Level). KeepsRule view w ls others told) one_viewer one_pyramid keeps) in
-      frames_ask_alike (queue e) (queue e') (queue d') (front.looker e).viewer (front.looker e).levels view events calls told rule kept led (subst (λ r. AskedFrom r told (queue d')) one_queue went)
+      ask (queue e) (queue e') (queue d') (front.looker e).viewer (front.looker e).levels view events calls told rule kept led (subst (λ r. AskedFrom r told (queue d')) one_queue went)
 
   -- Two frames of one view over such eyes: what was painted is painted in both, alike.
-  pub paints_alike : AlikeLaws → (e e' d d' : E) (view : View) (picture other : Pixels) (m n : List StoreCall) (f : IsFrame front e e' view picture) (g : IsFrame front d d' view other)
+  pub paints_alike : FramesAreAlike → FramesAskAlike → (e e' d d' : E) (view : View) (picture other : Pixels) (m n : List StoreCall) (f : IsFrame front e e' view picture) (g : IsFrame front d d' view other)
       → AreAlike (cache e) (cache d) → queue d ≡ queue e → (front.looker d).viewer ≡ (front.looker e).viewer → FailAlike (stores e f.events f.calls e' f.led ++ m) (stores d g.events g.calls d' g.led ++ n)
       → (g.events ≡ f.events) × (g.calls ≡ f.calls) × ShowSame picture other × AreAlike (cache e') (cache d') × (queue d' ≡ queue e') × FailAlike m n
-  paints_alike laws e e' d d' view picture other m n f g alike one_queue one_viewer fail =
+  paints_alike law ask e e' d d' view picture other m n f g alike one_queue one_viewer fail =
       let second = subst (λ w. Paints (cache d) w view other g.events (stores d g.events g.calls d' g.led) (cache d')) one_viewer (frame_paints d d' view other g) in
-      let both = frames_are_alike laws (cache e) (cache d) (cache e') (cache d') (front.looker e).viewer view picture other None None f.events g.events [] []
+      let both = law (cache e) (cache d) (cache e') (cache d') (front.looker e).viewer view picture other None None f.events g.events [] []
       (stores e f.events f.calls e' f.led) (stores d g.events g.calls d' g.led) m n alike (frame_paints e e' view picture f, refl) (second, refl) fail in
-      let asked = same_asked e e' d d' view f.events g.events f.calls g.calls f.rule g.rule (asks e f.events f.calls e' f.led) (asks d g.events g.calls d' g.led) alike one_queue one_viewer both.1 in
+      let asked = same_asked ask e e' d d' view f.events g.events f.calls g.calls f.rule g.rule (asks e f.events f.calls e' f.led) (asks d g.events g.calls d' g.led) alike one_queue one_viewer both.1 in
       (both.1, asked.0, both.3 refl, both.4, asked.1, both.5)
 
   -- what was cut off is cut off in both, for the same cause
-  pub cuts_alike : AlikeLaws → (e e' d d' : E) (view : View) (picture other : Pixels) (err cause : AcquireErr) (m n : List StoreCall)
+  pub cuts_alike : FramesAreAlike → FramesAskAlike → (e e' d d' : E) (view : View) (picture other : Pixels) (err cause : AcquireErr) (m n : List StoreCall)
       (f : IsCutOff front e e' view picture err) (g : IsCutOff front d d' view other cause)
       → AreAlike (cache e) (cache d) → queue d ≡ queue e → (front.looker d).viewer ≡ (front.looker e).viewer
       → FailAlike ((stores e f.events f.calls f.between f.led ++ tried f.between e' f.cell err f.cause) ++ m) ((stores d g.events g.calls g.between g.led ++ tried g.between d' g.cell cause g.cause) ++ n)
       → (cause ≡ err) × (g.events ≡ f.events) × (g.piece ≡ f.piece) × (g.calls ≡ f.calls) × AreAlike (cache e') (cache d') × (queue d' ≡ queue e') × FailAlike m n
-  cuts_alike laws e e' d d' view picture other err cause m n f g alike one_queue one_viewer fail =
+  cuts_alike law ask e e' d d' view picture other err cause m n f g alike one_queue one_viewer fail =
       let k : List StoreCall = stores e f.events f.calls f.between f.led ++ tried f.between e' f.cell err f.cause in
       let l : List StoreCall = stores d g.events g.calls g.between g.led ++ tried g.between d' g.cell cause g.cause in
       let second = subst (λ w. CutsOff (cache d) w view other cause g.events g.piece l (cache d')) one_viewer (frame_cuts d d' view other cause g) in
-      let both = frames_are_alike laws (cache e) (cache d) (cache e') (cache d') (front.looker e).viewer view picture other (Some err) (Some cause) f.events g.events f.piece g.piece k l m n alike (frame_cuts e e' view picture err f) second fail in
-      let asked = same_asked e f.between d g.between view f.events g.events f.calls g.calls f.rule g.rule (asks e f.events f.calls f.between f.led) (asks d g.events g.calls g.between g.led) alike one_queue one_viewer both.1 in
+      let both = law (cache e) (cache d) (cache e') (cache d') (front.looker e).viewer view picture other (Some err) (Some cause) f.events g.events f.piece g.piece k l m n alike (frame_cuts e e' view picture err f) second fail in
+      let asked = same_asked ask e f.between d g.between view f.events g.events f.calls g.calls f.rule g.rule (asks e f.events f.calls f.between f.led) (asks d g.events g.calls g.between g.led) alike one_queue one_viewer both.1 in
       let same : cause ≡ err = cc both.0 in
       let here : queue f.between ≡ queue e' = asks f.between f.piece [] e' f.refused in
       let there : queue g.between ≡ queue d' = asks g.between g.piece [] d' g.refused in
       (same, both.1, both.2, asked.0, both.4, sym there ∙ asked.1 ∙ here, both.5)
 
   -- not one painted and the other cut off
-  pub not_paints_cuts : AlikeLaws → (e e' d d' : E) (view : View) (picture other : Pixels) (cause : AcquireErr) (m n : List StoreCall)
+  pub not_paints_cuts : FramesAreAlike → (e e' d d' : E) (view : View) (picture other : Pixels) (cause : AcquireErr) (m n : List StoreCall)
       (f : IsFrame front e e' view picture) (g : IsCutOff front d d' view other cause)
       → AreAlike (cache e) (cache d) → (front.looker d).viewer ≡ (front.looker e).viewer
       → FailAlike (stores e f.events f.calls e' f.led ++ m) ((stores d g.events g.calls g.between g.led ++ tried g.between d' g.cell cause g.cause) ++ n) → ⊥
-  not_paints_cuts laws e e' d d' view picture other cause m n f g alike one_viewer fail =
+  not_paints_cuts law e e' d d' view picture other cause m n f g alike one_viewer fail =
       let l : List StoreCall = stores d g.events g.calls g.between g.led ++ tried g.between d' g.cell cause g.cause in
       let second = subst (λ w. CutsOff (cache d) w view other cause g.events g.piece l (cache d')) one_viewer (frame_cuts d d' view other cause g) in
-      let both = frames_are_alike laws (cache e) (cache d) (cache e') (cache d') (front.looker e).viewer view picture other None (Some cause) f.events g.events [] g.piece
+      let both = law (cache e) (cache d) (cache e') (cache d') (front.looker e).viewer view picture other None (Some cause) f.events g.events [] g.piece
       (stores e f.events f.calls e' f.led) l m n alike (frame_paints e e' view picture f, refl) second fail in
       cc both.0
 
-  pub not_cuts_paints : AlikeLaws → (e e' d d' : E) (view : View) (picture other : Pixels) (err : AcquireErr) (m n : List StoreCall)
+  pub not_cuts_paints : FramesAreAlike → (e e' d d' : E) (view : View) (picture other : Pixels) (err : AcquireErr) (m n : List StoreCall)
       (f : IsCutOff front e e' view picture err) (g : IsFrame front d d' view other)
       → AreAlike (cache e) (cache d) → (front.looker d).viewer ≡ (front.looker e).viewer
       → FailAlike ((stores e f.events f.calls f.between f.led ++ tried f.between e' f.cell err f.cause) ++ m) (stores d g.events g.calls d' g.led ++ n) → ⊥
-  not_cuts_paints laws e e' d d' view picture other err m n f g alike one_viewer fail =
+  not_cuts_paints law e e' d d' view picture other err m n f g alike one_viewer fail =
       let k : List StoreCall = stores e f.events f.calls f.between f.led ++ tried f.between e' f.cell err f.cause in
       let second = subst (λ w. Paints (cache d) w view other g.events (stores d g.events g.calls d' g.led) (cache d')) one_viewer (frame_paints d d' view other g) in
-      let both = frames_are_alike laws (cache e) (cache d) (cache e') (cache d') (front.looker e).viewer view picture other (Some err) None f.events g.events f.piece []
+      let both = law (cache e) (cache d) (cache e') (cache d') (front.looker e).viewer view picture other (Some err) None f.events g.events f.piece []
       k (stores d g.events g.calls d' g.led) m n alike (frame_cuts e e' view picture err f) (second, refl) fail in
       cc both.0
 
   -- two fetches of so many requests over such eyes
-  pub fetches_over : AlikeLaws → (e e' d d' : E) (count : ℕ) (servings others : List Served) (told other : Result Fetched (Unit {0})) (p q : List Event) (u v : List Asked) (m n : List StoreCall)
+  pub fetches_over : FetchesAreAlike → (e e' d d' : E) (count : ℕ) (servings others : List Served) (told other : Result Fetched (Unit {0})) (p q : List Event) (u v : List Asked) (m n : List StoreCall)
       (f : AreServings front e servings p u e') (g : AreServings front d others q v d')
       → IsAnswer count servings told → IsAnswer count others other → AreAlike (cache e) (cache d) → queue d ≡ queue e
       → FailAlike (servings_stores e servings p u e' f ++ m) (servings_stores d others q v d' g ++ n)
       → (others ≡ servings) × (other ≡ told) × (q ≡ p) × (v ≡ u) × AreAlike (cache e') (cache d') × (queue d' ≡ queue e') × FailAlike m n
-  fetches_over laws e e' d d' count servings others told other p q u v m n f g answer answer' alike one_queue fail =
+  fetches_over law e e' d d' count servings others told other p q u v m n f g answer answer' alike one_queue fail =
       let k : List StoreCall = servings_stores e servings p u e' f in
       let l : List StoreCall = servings_stores d others q v d' g in
       let second = subst (λ r. ServesAll (cache d) r others q v l (cache d') (queue d')) one_queue (servings_serve d others q v d' g) in
-      let both = fetches_are_alike laws (cache e) (cache d) (cache e') (cache d') (queue e) (queue e') (queue d') count servings others told other
+      let both = law (cache e) (cache d) (cache e') (cache d') (queue e) (queue e') (queue d') count servings others told other
       p q u v k l m n alike (servings_serve e servings p u e' f) answer second answer' fail in
       both

@@ -16,7 +16,7 @@ use Rattle.fetchers.specs.declared.served.Served.{Served}
 use Rattle.fetchers.specs.declared.served.Served.TheVariants.{Idle, Held, Loaded, Refused}
 use Rattle.fetchers.specs.Servings.{taking}
 use Rattle.alike_caches.specs.Alike.{AreAlike}
-use Rattle.alike_frames.specs.Servings.{Rests, Grants, Refuses, ServingsAreAlike}
+use Rattle.alike_frames.specs.Servings.{Rests, Grants, Refuses, Serves}
 use Rattle.alike_frames.proofs.Tandem.{AlikeLaws, Ends, Tandem, both_unpin}
 use Rattle.alike_frames.proofs.Getting as getting
 use Rattle.alike_frames.proofs.Peeling.{nothing_left}
@@ -115,20 +115,22 @@ not_refuse_grant laws c d c' d' q r t loaded err e f u v k l m n alike one two f
 not_none : (q r t : Queue) (request : Request) (u v : List Asked) → u ≡ taking None → v ≡ taking (Some request) → AskedFrom q u r → AskedFrom q v t → ⊥
 not_none q r t request u v u_is v_is led went = let take = one_take q r t None (Some request) u v u_is v_is led went in cc take.0
 
-pub servings_are_alike : AlikeLaws → ServingsAreAlike
-servings_are_alike laws c d c' d' q r t Idle Idle e f u v k l m n alike one two fail = both_rest c d c' d' q r t e f u v k l m n alike one two fail
-servings_are_alike laws c d c' d' q r t Idle Held e f u v k l m n alike one two fail = absurd (not_none q r t two.request u v one.took two.takes.took one.led two.takes.led)
-servings_are_alike laws c d c' d' q r t Idle Loaded e f u v k l m n alike one two fail = absurd (not_none q r t two.request u v one.took two.takes.took one.led two.takes.led)
-servings_are_alike laws c d c' d' q r t Idle (Refused err) e f u v k l m n alike one two fail = absurd (not_none q r t two.request u v one.took two.takes.took one.led two.takes.led)
-servings_are_alike laws c d c' d' q r t Held Idle e f u v k l m n alike one two fail = absurd (not_none q t r one.request v u two.took one.takes.took two.led one.takes.led)
-servings_are_alike laws c d c' d' q r t Loaded Idle e f u v k l m n alike one two fail = absurd (not_none q t r one.request v u two.took one.takes.took two.led one.takes.led)
-servings_are_alike laws c d c' d' q r t (Refused err) Idle e f u v k l m n alike one two fail = absurd (not_none q t r one.request v u two.took one.takes.took two.led one.takes.led)
-servings_are_alike laws c d c' d' q r t Held Held e f u v k l m n alike one two fail = let b = both_grant laws c d c' d' q r t false false e f u v k l m n alike one two fail in (refl, b.1, b.2, b.3, b.4, b.5)
-servings_are_alike laws c d c' d' q r t Held Loaded e f u v k l m n alike one two fail = let b = both_grant laws c d c' d' q r t false true e f u v k l m n alike one two fail in absurd (true≢false b.0)
-servings_are_alike laws c d c' d' q r t Loaded Held e f u v k l m n alike one two fail = let b = both_grant laws c d c' d' q r t true false e f u v k l m n alike one two fail in absurd (true≢false (sym b.0))
-servings_are_alike laws c d c' d' q r t Loaded Loaded e f u v k l m n alike one two fail = let b = both_grant laws c d c' d' q r t true true e f u v k l m n alike one two fail in (refl, b.1, b.2, b.3, b.4, b.5)
-servings_are_alike laws c d c' d' q r t Held (Refused err) e f u v k l m n alike one two fail = absurd (not_grant_refuse laws c d c' d' q r t false err e f u v k l m n alike one two fail)
-servings_are_alike laws c d c' d' q r t Loaded (Refused err) e f u v k l m n alike one two fail = absurd (not_grant_refuse laws c d c' d' q r t true err e f u v k l m n alike one two fail)
-servings_are_alike laws c d c' d' q r t (Refused err) Held e f u v k l m n alike one two fail = absurd (not_refuse_grant laws c d c' d' q r t false err e f u v k l m n alike one two fail)
-servings_are_alike laws c d c' d' q r t (Refused err) Loaded e f u v k l m n alike one two fail = absurd (not_refuse_grant laws c d c' d' q r t true err e f u v k l m n alike one two fail)
-servings_are_alike laws c d c' d' q r t (Refused err) (Refused cause) e f u v k l m n alike one two fail = both_refuse laws c d c' d' q r t err cause e f u v k l m n alike one two fail
+-- Servings whose calls of the stores fail alike come to the same.
+pub serving_alike : (laws : AlikeLaws) (c d c' d' : Cached) (q r t : Queue) (served told : Served) (e f : List Event) (u v : List Asked) (k l m n : List StoreCall)
+    → AreAlike c d → Serves c q served e u k c' r → Serves d q told f v l d' t → FailAlike (k ++ m) (l ++ n) → Together c' d' r t served told e f u v m n
+serving_alike laws c d c' d' q r t Idle Idle e f u v k l m n alike one two fail = both_rest c d c' d' q r t e f u v k l m n alike one two fail
+serving_alike laws c d c' d' q r t Idle Held e f u v k l m n alike one two fail = absurd (not_none q r t two.request u v one.took two.takes.took one.led two.takes.led)
+serving_alike laws c d c' d' q r t Idle Loaded e f u v k l m n alike one two fail = absurd (not_none q r t two.request u v one.took two.takes.took one.led two.takes.led)
+serving_alike laws c d c' d' q r t Idle (Refused err) e f u v k l m n alike one two fail = absurd (not_none q r t two.request u v one.took two.takes.took one.led two.takes.led)
+serving_alike laws c d c' d' q r t Held Idle e f u v k l m n alike one two fail = absurd (not_none q t r one.request v u two.took one.takes.took two.led one.takes.led)
+serving_alike laws c d c' d' q r t Loaded Idle e f u v k l m n alike one two fail = absurd (not_none q t r one.request v u two.took one.takes.took two.led one.takes.led)
+serving_alike laws c d c' d' q r t (Refused err) Idle e f u v k l m n alike one two fail = absurd (not_none q t r one.request v u two.took one.takes.took two.led one.takes.led)
+serving_alike laws c d c' d' q r t Held Held e f u v k l m n alike one two fail = let b = both_grant laws c d c' d' q r t false false e f u v k l m n alike one two fail in (refl, b.1, b.2, b.3, b.4, b.5)
+serving_alike laws c d c' d' q r t Held Loaded e f u v k l m n alike one two fail = let b = both_grant laws c d c' d' q r t false true e f u v k l m n alike one two fail in absurd (true≢false b.0)
+serving_alike laws c d c' d' q r t Loaded Held e f u v k l m n alike one two fail = let b = both_grant laws c d c' d' q r t true false e f u v k l m n alike one two fail in absurd (true≢false (sym b.0))
+serving_alike laws c d c' d' q r t Loaded Loaded e f u v k l m n alike one two fail = let b = both_grant laws c d c' d' q r t true true e f u v k l m n alike one two fail in (refl, b.1, b.2, b.3, b.4, b.5)
+serving_alike laws c d c' d' q r t Held (Refused err) e f u v k l m n alike one two fail = absurd (not_grant_refuse laws c d c' d' q r t false err e f u v k l m n alike one two fail)
+serving_alike laws c d c' d' q r t Loaded (Refused err) e f u v k l m n alike one two fail = absurd (not_grant_refuse laws c d c' d' q r t true err e f u v k l m n alike one two fail)
+serving_alike laws c d c' d' q r t (Refused err) Held e f u v k l m n alike one two fail = absurd (not_refuse_grant laws c d c' d' q r t false err e f u v k l m n alike one two fail)
+serving_alike laws c d c' d' q r t (Refused err) Loaded e f u v k l m n alike one two fail = absurd (not_refuse_grant laws c d c' d' q r t true err e f u v k l m n alike one two fail)
+serving_alike laws c d c' d' q r t (Refused err) (Refused cause) e f u v k l m n alike one two fail = both_refuse laws c d c' d' q r t err cause e f u v k l m n alike one two fail

@@ -69,14 +69,8 @@ ServesAll c q (served ∷ servings) events asked calls d r =
     (mid : Cached) × (between : Queue) × (first : List Event) × (rest : List Event) × (taken : List Asked) × (more : List Asked) × (made : List StoreCall) × (others : List StoreCall)
     × Serves c q served first taken made mid between × ServesAll mid between servings rest more others d r × (events ≡ first ++ rest) × (asked ≡ taken ++ more) × (calls ≡ made ++ others)
 
--- From caches that are alike, and the same queue, servings whose calls of the stores fail alike come to the same, and lead to caches that are
--- alike and to the same queue.
-abbrev pub ServingsAreAlike : Type 0
-ServingsAreAlike = (c d c' d' : Cached) (q r t : Queue) (served told : Served) (e f : List Event) (u v : List Asked) (k l m n : List StoreCall)
-    → AreAlike c d → Serves c q served e u k c' r → Serves d q told f v l d' t → FailAlike (k ++ m) (l ++ n)
-    → (told ≡ served) × (f ≡ e) × (v ≡ u) × AreAlike c' d' × (t ≡ r) × FailAlike m n
-
--- So do fetches of so many requests, with the same answer.
+-- From caches that are alike, and the same queue, fetches of so many requests whose calls of the stores fail alike come to the same servings and
+-- the same answer, and lead to caches that are alike and to the same queue.
 abbrev pub FetchesAreAlike : Type 0
 FetchesAreAlike = (c d c' d' : Cached) (q r t : Queue) (count : ℕ) (servings others : List Served) (told other : Result Fetched (Unit {0})) (e f : List Event) (u v : List Asked) (k l m n : List StoreCall)
     → AreAlike c d → ServesAll c q servings e u k c' r → IsAnswer count servings told → ServesAll d q others f v l d' t → IsAnswer count others other → FailAlike (k ++ m) (l ++ n)

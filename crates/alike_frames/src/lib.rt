@@ -3,7 +3,7 @@
 #![tactic(auto)]
 
 ghost use Rattle.alike_frames.specs.Frames.{FramesAreAlike, FramesAskAlike, PicturesAreOne};
-ghost use Rattle.alike_frames.specs.Servings.{ServingsAreAlike, FetchesAreAlike};
+ghost use Rattle.alike_frames.specs.Servings.{FetchesAreAlike};
 
 use alike_caches::{acquires_are_alike, quiet_is_alike, reads_are_alike};
 
@@ -26,16 +26,7 @@ pub fn pictures_are_one()
     ensures { PicturesAreOne }
 {}
 
-/// Servings of one queue come to the same, and lead to caches that are alike.
-pub fn servings_are_alike()
-    ensures { ServingsAreAlike }
-{
-    acquires_are_alike();
-    reads_are_alike();
-    quiet_is_alike();
-}
-
-/// So do fetches, with the same answer.
+/// Fetches from one queue come to the same servings and the same answer, and lead to caches that are alike.
 pub fn fetches_are_alike()
     ensures { FetchesAreAlike }
 {

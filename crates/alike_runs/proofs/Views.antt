@@ -16,9 +16,8 @@ use Rattle.store_calls.specs.Calls.{StoreCall, FailAlike}
 use Rattle.volatile_cell.specs.Asked.{Asked}
 use Rattle.team_run.specs.Desk.{Desk, desk_front}
 use Rattle.team_run.specs.Views as team
-use Rattle.alike_frames.specs.Frames.{PicturesAreOne}
+use Rattle.alike_frames.specs.Frames.{FramesAreAlike, FramesAskAlike, PicturesAreOne}
 use Rattle.alike_frames.proofs.OverEyes as over
-use Rattle.alike_frames.proofs.Tandem.{AlikeLaws}
 use Rattle.alike_runs.proofs.AtDesk.{cache_at, queue_at, stores_at, follows_at, asks_at, tried_at, acquires_at}
 use Rattle.alike_runs.specs.Runs.{DesksAreAlike}
 use Rattle.alike_runs.specs.Commands.{ViewsAreAlike}
@@ -30,7 +29,7 @@ untrue b e h = cc
 has_no_lack : (levels : List Level) (view : View) → team.HasLevel levels view → team.LacksLevel levels view → ⊥
 has_no_lack levels view has (level, is, past) = let below : level < length levels = subst (λ (o : Option ℕ). IfSome o (λ level. level < length levels)) is has in omega (arith, below, past)
 
-module _ (laws : AlikeLaws) (one : PicturesAreOne) (a b a' b' : Desk) (viewer : ℕ) (view : View) (s t : Shot) (e f : List Event) (u v : List Asked) (k l m n : List StoreCall) (alike : DesksAreAlike a b) (fail : FailAlike (k ++ m) (l ++ n)) where
+module _ (law : FramesAreAlike) (ask : FramesAskAlike) (one : PicturesAreOne) (a b a' b' : Desk) (viewer : ℕ) (view : View) (s t : Shot) (e f : List Event) (u v : List Asked) (k l m n : List StoreCall) (alike : DesksAreAlike a b) (fail : FailAlike (k ++ m) (l ++ n)) where
   -- what two views tell and show
   abbrev Same : Answer → Answer → Type 0
   Same p q = (q ≡ p) × (t.shown ≡ s.shown) × (IsTrue s.shown → t.picture ≡ s.picture) × DesksAreAlike a' b' × FailAlike m n
@@ -44,7 +43,7 @@ module _ (laws : AlikeLaws) (one : PicturesAreOne) (a b a' b' : Desk) (viewer : 
 
   both_painted : (p q : Painted) → team.Paints a viewer view s e u k p a' → team.Paints b viewer view t f v l q b' → Same (answer.Frame p) (answer.Frame q)
   both_painted p q g h =
-      let both = over.paints_alike (desk_front viewer) cache_at queue_at (λ _. refl) stores_at follows_at asks_at tried_at acquires_at laws
+      let both = over.paints_alike (desk_front viewer) cache_at queue_at (λ _. refl) stores_at follows_at asks_at tried_at acquires_at law ask
       a a' b b' view s.picture t.picture m n g.frame h.frame alike.cache alike.queue refl (told_fail _ _ g.stores_are h.stores_are) in
       let picture : t.picture ≡ s.picture = one s.picture t.picture g.filled h.filled both.2 in
       let told : q ≡ p = h.told ∙ ap (λ (ls : List Level). painted_of (wanted_level ls view) t.picture) same_levels ∙ ap (painted_of (wanted_level a.cache.levels view)) picture ∙ sym g.told in
@@ -52,16 +51,16 @@ module _ (laws : AlikeLaws) (one : PicturesAreOne) (a b a' b' : Desk) (viewer : 
 
   both_cut : (x y : AcquireErr) → team.CutsOff a viewer view s e u k x a' → team.CutsOff b viewer view t f v l y b' → Same (answer.Refused (refusal.Acquire x)) (answer.Refused (refusal.Acquire y))
   both_cut x y g h =
-      let both = over.cuts_alike (desk_front viewer) cache_at queue_at (λ _. refl) stores_at follows_at asks_at tried_at acquires_at laws
+      let both = over.cuts_alike (desk_front viewer) cache_at queue_at (λ _. refl) stores_at follows_at asks_at tried_at acquires_at law ask
       a a' b b' view s.picture t.picture x y m n g.cut h.cut alike.cache alike.queue refl (told_fail _ _ g.stores_are h.stores_are) in
       (ap (λ z. answer.Refused (refusal.Acquire z)) both.0, h.hidden ∙ sym g.hidden, (λ shown. absurd (untrue s.shown g.hidden shown)), record { cache = both.4; queue = both.5 }, both.6)
 
   not_painted_cut : (p : Painted) (y : AcquireErr) → team.Paints a viewer view s e u k p a' → team.CutsOff b viewer view t f v l y b' → ⊥
-  not_painted_cut p y g h = over.not_paints_cuts (desk_front viewer) cache_at queue_at (λ _. refl) stores_at follows_at asks_at tried_at acquires_at laws
+  not_painted_cut p y g h = over.not_paints_cuts (desk_front viewer) cache_at queue_at (λ _. refl) stores_at follows_at asks_at tried_at acquires_at law
       a a' b b' view s.picture t.picture y m n g.frame h.cut alike.cache refl (told_fail _ _ g.stores_are h.stores_are)
 
   not_cut_painted : (x : AcquireErr) (q : Painted) → team.CutsOff a viewer view s e u k x a' → team.Paints b viewer view t f v l q b' → ⊥
-  not_cut_painted x q g h = over.not_cuts_paints (desk_front viewer) cache_at queue_at (λ _. refl) stores_at follows_at asks_at tried_at acquires_at laws
+  not_cut_painted x q g h = over.not_cuts_paints (desk_front viewer) cache_at queue_at (λ _. refl) stores_at follows_at asks_at tried_at acquires_at law
       a a' b b' view s.picture t.picture x m n g.cut h.frame alike.cache refl (told_fail _ _ g.stores_are h.stores_are)
 
   both_lack : team.FindsNoLevel a viewer view s e u k a' → team.FindsNoLevel b viewer view t f v l b' → Same (answer.Refused refusal.Outside) (answer.Refused refusal.Outside)
@@ -98,5 +97,5 @@ module _ (laws : AlikeLaws) (one : PicturesAreOne) (a b a' b' : Desk) (viewer : 
   view_alike p (answer.Fetched loaded held refused) g h = absurd h
   view_alike p (answer.Refused (refusal.TooLarge y)) g h = absurd h
 
-pub views_alike : AlikeLaws → PicturesAreOne → ViewsAreAlike
-views_alike laws one a b a' b' viewer view s t e f u v k l m n p q alike g h fail = view_alike laws one a b a' b' viewer view s t e f u v k l m n alike fail p q g h
+pub views_alike : FramesAreAlike → FramesAskAlike → PicturesAreOne → ViewsAreAlike
+views_alike law ask one a b a' b' viewer view s t e f u v k l m n p q alike g h fail = view_alike law ask one a b a' b' viewer view s t e f u v k l m n alike fail p q g h

@@ -4,22 +4,19 @@
 
 ghost use Rattle.alike_runs.specs.Runs.{RunsAreAlike};
 
-use alike_caches::{
-    acquires_are_alike, gets_are_alike, quiet_is_alike, reads_are_alike, sets_are_alike,
-    shuts_are_alike,
-};
-use alike_frames::pictures_are_one;
+use alike_caches::{gets_are_alike, sets_are_alike, shuts_are_alike};
+use alike_frames::{fetches_are_alike, frames_are_alike, frames_ask_alike, pictures_are_one};
 
 /// Runs of the same commands over stores that hold the same, whose calls of the stores fail alike, tell the same, with the same
 /// pictures, and leave the same but under keys whose last put was not done.
 pub fn runs_are_alike()
     ensures { RunsAreAlike }
 {
-    acquires_are_alike();
-    reads_are_alike();
-    quiet_is_alike();
     gets_are_alike();
     sets_are_alike();
     shuts_are_alike();
+    frames_are_alike();
+    frames_ask_alike();
+    fetches_are_alike();
     pictures_are_one();
 }
