@@ -25,7 +25,7 @@ pub fn split_pass<S: Store>(
     Ok(TeamPass { cells: pass, asks })
 }
 
-/// Splits so many passes of both from the first ones. Where memory is wanting some of them are split.
+/// Splits so many passes of both from the first ones. Where memory is wanting fewer of them are split.
 pub fn draw<S: Store>(
     cells: &Cells<S>,
     queue: &Turn<QueueDesk>,
@@ -40,6 +40,7 @@ pub fn draw<S: Store>(
     ensures first { IsFirstPass cells.now queue.now first.new }
     ensures drawn { AreDrawn cells.now queue.now first.old drawn.new.items first.new }
     ensures count { OnOk result (length drawn.new.items ≡ count) }
+    ensures wanting { OnErr result (length drawn.new.items < count) }
     ensures few { length drawn.new.items ≤ count }
 {
     for _ in 0..count {

@@ -1,4 +1,4 @@
-use Rattle.std.proofs.Common.{rules, ◌≡◌, ◌∙◌, ◌+◌, ◌++◌, List, [], ◌∷◌, length, sym, ap, subst, arith, length-append}
+use Rattle.std.proofs.Common.{rules, ◌∙◌, ◌<◌, [], ◌∷◌, OnErr, Result, Ok, Err, length, sym, ap, subst, arith, length-append}
 use Rattle.std.proofs.lemmas.List.{append-nil}
 use Rattle.team_passes.specs.declared.team_pass.TeamPass.{TeamPass}
 use Rattle.team_passes.specs.Teams.{AreDrawn}
@@ -36,3 +36,11 @@ loop-preserved g c =
 pub returns-in_err-pass-clause-drawn : goal.returns-in_err-pass-clause-drawn
 returns-in_err-pass-clause-drawn g c = subst (λ l. AreDrawn c.args.cells.now c.args.queue.now c.args.first.now l c.split_pass.new.first) (append-nil c.loop.drawn.items)
     (drawn_more c.args.cells.now c.args.queue.now c.args.first.now c.loop.first c.split_pass.new.first c.loop.drawn.items [] c.loop.invariant.drawn c.in_err-pass.ensures.wanting)
+
+-- what an error is to tell holds
+on_err : {X E : Type 0} (r : Result X E) (A : Type 0) → A → OnErr r A
+on_err (Ok x) A holds = tt
+on_err (Err e) A holds = holds
+
+pub returns-in_err-pass-clause-wanting : goal.returns-in_err-pass-clause-wanting
+returns-in_err-pass-clause-wanting g c = let was = c.loop.invariant.count in on_err c.from_residual.result (length c.loop.drawn.items < c.args.count) (omega arith)

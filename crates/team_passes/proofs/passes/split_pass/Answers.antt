@@ -1,5 +1,5 @@
 use Rattle.std.proofs.Common.{◌∙◌, ap}
-use Rattle.team_passes.proofs.Teaming.{drawn_none, drew_one}
+use Rattle.team_passes.proofs.Teaming.{drew_one}
 use Rattle.team_passes.proofs.passes.split_pass.Goals as goal
 
 pub returns-clause-first : goal.returns-clause-first

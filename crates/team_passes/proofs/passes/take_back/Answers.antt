@@ -1,7 +1,6 @@
-use Rattle.std.proofs.Common.{rules, ◌≡◌, ◌∙◌, ◌++◌, List, [], ◌∷◌, All, sym, ap, subst, append_assoc}
+use Rattle.std.proofs.Common.{rules, ◌≡◌, ◌∙◌, ◌++◌, [], ◌∷◌, All, sym, ap, subst, append_assoc}
 use Rattle.std.proofs.lemmas.List.{nil_from_length, append-nil}
 use Rattle.std.proofs.lemmas.List.Elements.{All-head, All-tail}
-use Rattle.team_passes.specs.declared.team_pass.TeamPass.{TeamPass}
 use Rattle.team_passes.specs.Teams.{IsTeamPass, AreTakenIn}
 use Rattle.team_passes.proofs.Teaming.{taken_none, taken_on}
 use Rattle.team_passes.proofs.passes.take_back.Goals as goal
