@@ -31,7 +31,7 @@ module _ (levels : List Level) (keys : KeyNames) (before : List Contents) where
   IsCausedBy c other = Unit {0}
 
   -- Why a command is refused: for want of memory, which its passes may have met before it began, or a get and a set by the cell of their
-  -- voxel, and a view by a cell that it looked for.
+  -- voxel, and a view by some cell of the volume.
   abbrev pub IsCausedReply : Command → Answer → Type 0
   IsCausedReply (command.Get level pos) (answer.Refused (refusal.Acquire err)) = (err ≡ cause.Memory) ⊎ ((cell : ℕ) × (at : ℕ) × IsVoxelOf levels level pos cell at × IsCausedBy cell err)
   IsCausedReply (command.Set level pos x) (answer.Refused (refusal.Acquire err)) = (err ≡ cause.Memory) ⊎ ((cell : ℕ) × (at : ℕ) × IsVoxelOf levels level pos cell at × IsCausedBy cell err)
