@@ -3,14 +3,12 @@ use Rattle.std.proofs.Common.{◌≡◌, ◌∙◌, inl, ℕ, ◌+◌, ◌<◌, 
 use Rattle.std.proofs.lemmas.Bool.Decides.{nat_tests}
 use Rattle.std.proofs.lemmas.List.{append-nil}
 use Rattle.cell_grid.specs.declared.level.Level.{Level}
-use Rattle.arr_history.specs.declared.event.Event.{Event}
 use Rattle.arr_history.specs.declared.event.Event.TheVariants as event
 use Rattle.scale_pick.specs.declared.view.View.{View}
 use Rattle.scale_pick.specs.Picture.{Pixels, place, IsFilled, SameBefore}
 use Rattle.scale_pick.specs.Pixel.{HasVoxel, IsOutside}
 use Rattle.scale_pick.specs.Shade.{shown}
 use Rattle.scale_pick.specs.Wanted.{wanted_level}
-use Rattle.volatile_cell.specs.Asked.{Asked}
 use Rattle.hier_paint.specs.Sight.{Sight, is_cell, is_held}
 use Rattle.hier_paint.specs.declared.hand.Hand.{Hand}
 use Rattle.hier_paint.specs.declared.hand.InHand.{InHand}

@@ -3,7 +3,6 @@ use Rattle.std.proofs.Common.{◌≡◌, ◌⊎◌, inl, inr, ℕ, zero, suc, tr
 use Rattle.std.proofs.lemmas.List.{append-nil}
 use Rattle.std.proofs.lemmas.List.Elements.{Contains-append_left, Contains-push}
 use Rattle.std.proofs.lemmas.Bool.Decides.{nat_tests}
-use Rattle.cell_grid.specs.declared.level.Level.{Level}
 use Rattle.arr_history.specs.declared.event.Event.{Event}
 use Rattle.arr_history.specs.declared.event.Event.TheVariants as event
 use Rattle.scale_pick.specs.declared.note.Note.{Note}

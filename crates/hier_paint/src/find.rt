@@ -1,9 +1,8 @@
 // Finding a cell ready, or not.
-ghost use Rattle.std.specs.Prelude.{◌≡◌, ◌<◌, ℕ, List, [], IfOk, IfErr, OnErr, Some, None, true};
+ghost use Rattle.std.specs.Prelude.{◌≡◌, ◌<◌, [], IfOk, IfErr, OnErr, Some, None, true};
 ghost use Rattle.cell_grid.specs.Pyramid.{cells_of};
 ghost use Rattle.hier_paint.specs.Sight.{given_back};
 ghost use Rattle.hier_paint.specs.Hands.{Fits, cell_in, sight};
-ghost use Rattle.hier_paint.specs.Visits.{IsLookedFor};
 ghost use Rattle.hier_paint.specs.Works.{Found, Fails};
 ghost use Rattle.hier_paint.specs.Finding.{IsFoundLook, IsFailedLook, IsAtVoxel};
 

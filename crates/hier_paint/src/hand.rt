@@ -1,5 +1,5 @@
 // The cell that a painter holds, and those that it found not ready.
-ghost use Rattle.std.specs.Prelude.{◌≡◌, ◌<◌, true, List, None, Some, IfSome, slice_index_or};
+ghost use Rattle.std.specs.Prelude.{◌≡◌, ◌<◌, List, None, Some, IfSome};
 ghost use Rattle.cell_grid.specs.declared.level.Level.{Level};
 ghost use Rattle.hier_paint.specs.Nearest.{IsSmall};
 ghost use Rattle.hier_paint.specs.Boxes.{IsPlaced};

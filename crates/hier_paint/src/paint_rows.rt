@@ -1,5 +1,5 @@
 // The rows of a picture.
-ghost use Rattle.std.specs.Prelude.{◌≡◌, ◌<◌, ◌≤◌, ℕ, length, IfOk, IfErr, OnErr, OnOk, None};
+ghost use Rattle.std.specs.Prelude.{◌≡◌, ◌<◌, ◌≤◌, length, IfErr, OnErr, OnOk, None};
 ghost use Rattle.scale_pick.specs.Picture.{place, IsFilled, SameBefore};
 ghost use Rattle.scale_pick.specs.Wanted.{wanted_level};
 ghost use Rattle.hier_paint.specs.Hands.{Fits, sight};

@@ -10,7 +10,7 @@ use crate::hand::Hand;
 use crate::paint_rows::paint_rows;
 use cell_file::AcquireErr;
 use cell_grid::Geometry;
-use scale_pick::{Painted, Picture, Shades, View, best};
+use scale_pick::{Painted, Picture, Shades, View, best, blocking_is_complete};
 use volatile_cell::Eyes;
 
 /// Paints a view, and answers what became of it. It takes no memory of its own.
@@ -45,6 +45,7 @@ pub fn paint<E: Eyes>(
     let mut hand = Hand::new(view.strategy);
     let outcome = paint_rows(eyes, &mut hand, view, shades, wanted, picture);
     open_hand(eyes, hand);
+    blocking_is_complete(); // a law, which does nothing: the contract's proof cites it
     match outcome {
         Err(refusal) => Err(refusal),
         Ok(()) => Ok(Painted::of(picture, wanted)),

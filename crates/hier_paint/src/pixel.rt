@@ -1,5 +1,5 @@
 // A pixel, from the first level that is ready.
-ghost use Rattle.std.specs.Prelude.{◌≡◌, ◌<◌, ◌≤◌, ℕ, List, [], ◌∷◌, length, IfOk, IfErr, OnErr, Some, None};
+ghost use Rattle.std.specs.Prelude.{◌≡◌, ◌<◌, ◌≤◌, [], ◌∷◌, length, IfOk, IfErr, OnErr, Some, None};
 ghost use Rattle.cell_grid.specs.Pyramid.{cells_of, voxels_of};
 ghost use Rattle.arr_history.specs.declared.event.Event.TheVariants as event;
 ghost use Rattle.scale_pick.specs.Wanted.{wanted_level};

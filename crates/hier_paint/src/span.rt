@@ -1,5 +1,5 @@
 // The pixels of a row that are painted together: those that the cell in the hand shows, and those outside the level.
-ghost use Rattle.std.specs.Prelude.{◌≡◌, ◌<◌, ◌≤◌, ℕ, length, []};
+ghost use Rattle.std.specs.Prelude.{◌≡◌, ◌<◌, ◌≤◌, length, []};
 ghost use Rattle.scale_pick.specs.Picture.{place, IsFilled, SameBefore};
 ghost use Rattle.scale_pick.specs.Wanted.{wanted_level};
 ghost use Rattle.hier_paint.specs.Nearest.{IsWalk};

@@ -1,5 +1,5 @@
 // The voxel that is nearest to a pixel's point.
-ghost use Rattle.std.specs.Prelude.{◌≡◌, ◌<◌, ◌≤◌, ◌^◌, ℕ, pos, List, length, map, Some, IfSome, IfNone, slice_get, slice_index_or, unsigned_abs, true};
+ghost use Rattle.std.specs.Prelude.{◌≡◌, ◌<◌, ◌≤◌, ◌^◌, ℕ, pos, List, length, map, Some, IfSome, IfNone, slice_index_or, unsigned_abs, true};
 ghost use Rattle.voxel_box.specs.Box.{IsWithin};
 ghost use Rattle.cell_grid.specs.Pyramid.{cells_of, voxels_of};
 ghost use Rattle.whole_affine.specs.Affine.{Map};

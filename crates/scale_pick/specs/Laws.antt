@@ -1,5 +1,5 @@
 -- Laws of notes, moments and pictures.
-use Rattle.std.specs.Prelude.{◌≡◌, ◌↔◌, ℕ, ◌<◌, List, [], ◌++◌, length, Contains}
+use Rattle.std.specs.Prelude.{◌≡◌, ◌↔◌, ℕ, ◌<◌, List, length, Contains}
 use Rattle.arr_history.specs.declared.event.Event.{Event}
 use Rattle.arr_history.specs.declared.event.Event.TheVariants as event
 use Rattle.arr_history.specs.Shape.{Shape}
@@ -11,7 +11,7 @@ use Rattle.scale_pick.specs.declared.strategy.Strategy.TheVariants.{Blocking}
 use Rattle.scale_pick.specs.declared.view.View.{View}
 use Rattle.scale_pick.specs.declared.note.Note.TheVariants as note
 use Rattle.scale_pick.specs.Looks.{FoundNotReady}
-use Rattle.scale_pick.specs.Moment.{LeadAmong, HadAmong, ShowsMoment}
+use Rattle.scale_pick.specs.Moment.{HadAmong, ShowsMoment}
 use Rattle.scale_pick.specs.Notes.{notes_of}
 use Rattle.scale_pick.specs.Painted.{IsComplete}
 use Rattle.scale_pick.specs.Painting.{IsShown, IsPainting}
@@ -26,17 +26,9 @@ pub record AreNoted (strategy : Strategy) (events : List Event) : Type 0 where
 abbrev pub NotedLooks : Type 0
 NotedLooks = (strategy : Strategy) (events : List Event) → AreNoted strategy events
 
--- Nothing leads from a state to itself.
-abbrev pub PassesStay : Type 0
-PassesStay = (b : Shape) (k : ℕ) (s : State) → LeadAmong b k s [] s
-
--- What a pass did leads on from where it led before.
-abbrev pub PassesCompose : Type 0
-PassesCompose = (b : Shape) (k : ℕ) (s t u : State) (p q : List Event) → LeadAmong b k s p t → LeadAmong b k t q u → LeadAmong b k s (p ++ q) u
-
--- What a pass read is a number that the voxel had while these events happened.
+-- What is read is a number that the voxel had while these events happened.
 abbrev pub ReadMoments : Type 0
-ReadMoments = (b : Shape) (s : State) (all : List Event) (k cell at number : ℕ) → AreLegal b s all → Contains (mine k all) (event.Read k cell at number) → HadAmong b s all cell at number
+ReadMoments = (b : Shape) (s : State) (all : List Event) (k cell at number : ℕ) → AreLegal b s all → Contains all (event.Read k cell at number) → HadAmong b s all cell at number
 
 -- What a pixel shows is a number that its voxel had while the events happened among which its pass painted it.
 abbrev pub ShownMoments : Type 0

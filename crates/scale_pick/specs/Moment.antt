@@ -3,16 +3,10 @@ use Rattle.std.specs.Prelude.{◌≡◌, ℕ, IsTrue, List, ◌++◌}
 use Rattle.arr_history.specs.declared.event.Event.{Event}
 use Rattle.arr_history.specs.Shape.{Shape}
 use Rattle.arr_history.specs.State.{State}
-use Rattle.arr_history.specs.History.{after, LeadTo, mine}
+use Rattle.arr_history.specs.History.{after}
 use Rattle.cell_grid.specs.declared.level.Level.{Level}
 use Rattle.scale_pick.specs.declared.view.View.{View}
 use Rattle.scale_pick.specs.Shows.{ShowsBy}
-
--- These events of a pass lead from one state to another, with events of other passes between them.
-pub record LeadAmong (b : Shape) (k : ℕ) (s : State) (events : List Event) (t : State) : Type 0 where
-  pub all : List Event
-  pub own : mine k all ≡ events
-  pub led : LeadTo b s all t
 
 -- A voxel had a number at a moment while these events happened: after some of them its array had it, where it is told.
 pub record HadAmong (b : Shape) (s : State) (all : List Event) (cell at number : ℕ) : Type 0 where

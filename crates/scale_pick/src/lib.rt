@@ -11,8 +11,7 @@ mod strategy;
 mod view;
 
 pub use laws::{
-    blocking_is_complete, looks_are_noted, passes_compose, pictures_show_moments,
-    reads_are_of_moments,
+    blocking_is_complete, looks_are_noted, pictures_show_moments, reads_are_of_moments,
 };
 pub use note::Note;
 pub use painted::Painted;

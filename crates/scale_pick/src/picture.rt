@@ -1,5 +1,5 @@
 // A picture and the level of each of its pixels.
-ghost use Rattle.std.specs.Prelude.{◌≡◌, ◌+◌, ◌*◌, ◌<◌, ◌≤◌, List, length, replicate, slice_set, IfOk};
+ghost use Rattle.std.specs.Prelude.{◌≡◌, ◌+◌, ◌*◌, ◌<◌, ◌≤◌, replicate, slice_set, IfOk};
 ghost use Rattle.scale_pick.specs.Picture.{place, IsFilled};
 
 use std::alloc::{AllocError, Global};

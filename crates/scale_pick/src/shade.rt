@@ -1,5 +1,5 @@
 // The byte that shows a number.
-ghost use Rattle.std.specs.Prelude.{◌≡◌, ◌<◌, ◌≤◌, ◌*◌, ◌/◌, ◌-◌, ◌^◌};
+ghost use Rattle.std.specs.Prelude.{◌≡◌, ◌<◌, ◌*◌, ◌/◌, ◌-◌, ◌^◌};
 ghost use Rattle.scale_pick.specs.Shade.{shown, scale_of};
 
 /// The byte that shows a number in a range: 0 up to `low`, 255 from `high` on, and between them in proportion, rounded down.

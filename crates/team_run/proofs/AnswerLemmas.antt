@@ -29,7 +29,7 @@ use Rattle.sole_cache.specs.Pieces.{IsCellCaused}
 use Rattle.view_script.specs.declared.command.Command.TheVariants as command
 use Rattle.volatile_cell.specs.Asked.{Asked}
 use Rattle.sole_eyes.proofs.Following.{follows_called}
-use Rattle.team_run.specs.Desk.{Desk, DeskLeads, DeskFollows, IsDeskRefusal, desk, levels_at, desk_front}
+use Rattle.team_run.specs.Desk.{Desk, DeskLeads, desk, levels_at, desk_front}
 use Rattle.team_run.specs.Fetches.{AreDeskServings, stores_of_all, fetch_answer}
 use Rattle.team_run.specs.Serve.{AnswersTask, IsGot, IsPutTask, refusal_in}
 use Rattle.team_run.specs.Trace.{Trace}

@@ -1,5 +1,5 @@
 -- A run, from what was served and how the cache was shut.
-use Rattle.std.proofs.Common.{◌≡◌, ◌∙◌, ℕ, ◌+◌, List, [], ◌++◌, IfOk, IsOk, Result, Ok, Err, true≢false, refl, sym, ap, subst}
+use Rattle.std.proofs.Common.{◌≡◌, ◌∙◌, ℕ, ◌+◌, List, [], ◌++◌, IfOk, IsOk, Result, Ok, Err, true≢false, sym, ap, subst}
 use Rattle.std.specs.List.Sorted.{IsNonDecreasingBy, IsPermutation}
 use Rattle.arr_history.specs.declared.closed.Unsaved.{Unsaved}
 use Rattle.arr_history.specs.declared.tally.Tally.{Tally}
@@ -12,6 +12,7 @@ use Rattle.fetch_queue.specs.Queue.{Queue}
 use Rattle.run_report.specs.declared.reply.Reply.{Reply}
 use Rattle.run_report.specs.declared.report.Report.{Report}
 use Rattle.run_report.specs.declared.shot.Shot.{Shot}
+use Rattle.scale_pick.specs.Laws.{ShownMoments}
 use Rattle.sole_cache.specs.Cached.{Cached}
 use Rattle.sole_cache.specs.Laws.{MovesCompose}
 use Rattle.sole_cache.specs.Open.{IsOpened}
@@ -61,7 +62,7 @@ module _ (on : MovesCompose) (first last : Desk) (commands : List NumberedComman
       let both = licenses_on first.cache last.cache shut.last shut.closing faults (failed_puts unsaved) shut.moves.stores (serves_license first last commands report.replies trace served) failed in
       subst (λ k. Licenses first.cache.shown (faults + k) stores) (sym (same_failed unsaved report.unsaved named)) (subst (λ (s : List Contents). Licenses first.cache.shown (faults + failed_puts unsaved) s) shut.shown both)
 
-module _ (laws : KeptLaws) (on : MovesCompose) (grow : TalliesGrow) where
+module _ (laws : KeptLaws) (on : MovesCompose) (grow : TalliesGrow) (moments : ShownMoments) where
   -- the replies and the shots were added to none, over a queue that was empty
   pub run_added : (c : Cached) (q : Queue) (last : Desk) (commands : List NumberedCommand) (before replies : List Reply) (blank shots : List Shot) (stores : List Contents) (unsaved : List Unsaved) (tally : Tally) (report : Report)
       → before ≡ [] → blank ≡ [] → Adds (desk c q) commands before replies blank shots last → IsShut last.cache stores unsaved tally
@@ -72,7 +73,7 @@ module _ (laws : KeptLaws) (on : MovesCompose) (grow : TalliesGrow) where
       let served : ServesTasks first commands report.replies adds.trace last =
       subst (λ (p : Queue). ServesTasks (desk c p) commands report.replies adds.trace last) begun (subst (λ r. ServesTasks (desk c q) commands r adds.trace last) same adds.served) in
       let shots_are = shown ∙ adds.kept ∙ ap (λ b. b ++ adds.trace.shots) bare in
-      run_of laws grow levels keys slots c opened commands stores report (completes on first last commands adds.trace stores unsaved tally report served shots_are shut tally_is named) ascending shut.stood
+      run_of laws grow moments levels keys slots c opened commands stores report (completes on first last commands adds.trace stores unsaved tally report served shots_are shut tally_is named) ascending shut.stood
       (licensed on first last commands adds.trace stores unsaved tally report served shots_are shut tally_is named)
 
 -- what a run answers, over a cache and a queue that were made for it

@@ -1,7 +1,6 @@
 -- What led from one moment of eyes to another leads from one desk to another.
-use Rattle.std.proofs.Common.{◌≡◌, ◌∙◌, ℕ, ◌<◌, nat_lt, List, [], ◌∷◌, ◌++◌, length, refl, sym, ap, subst, arith, Option, Some, None, true, false, Bool, cond, Result, Ok, Err}
+use Rattle.std.proofs.Common.{◌≡◌, ◌∙◌, ℕ, nat_lt, List, [], ◌∷◌, ◌++◌, length, refl, sym, ap, subst, arith, Option, Some, None, true, false, Bool, cond}
 use Rattle.arr_history.specs.declared.event.Event.{Event}
-use Rattle.arr_history.specs.declared.event.Event.TheVariants as event
 use Rattle.cell_grid.specs.Pyramid.{cells_of}
 use Rattle.cell_grid.specs.declared.level.Level.{Level}
 use Rattle.fetch_queue.specs.declared.request.Request.{Request}
@@ -14,18 +13,6 @@ use Rattle.sole_eyes.specs.SoleLaws.{leads_nowhere, leads_after}
 use Rattle.volatile_cell.proofs.Asking.{asked_after}
 use Rattle.team_run.specs.Desk.{Desk, DeskLeads, DeskFollows, IsReady, desk}
 use Rattle.std.proofs.lemmas.Grind.{common_steps}
-use Rattle.std.specs.Result.{IfErr, OnOk}
-use Rattle.cell_file.specs.declared.errors.AcquireErr.{AcquireErr}
-use Rattle.fetchers.specs.declared.served.Served.{Served}
-use Rattle.fetchers.specs.declared.served.Served.TheVariants as served
-use Rattle.fetchers.specs.Servings.{IsGrantedServing, IsServing, AreServings}
-use Rattle.hier_paint.specs.Frames.{IsFrame, IsCutOff, IsVisited, IsVisitedTo, KeepsRule}
-use Rattle.scale_pick.specs.declared.painted.Painted.{Painted}
-use Rattle.scale_pick.specs.declared.view.View.{View}
-use Rattle.scale_pick.specs.Notes.{notes_of}
-use Rattle.scale_pick.specs.Painting.{IsPainting}
-use Rattle.scale_pick.specs.Picture.{Pixels}
-use Rattle.call_events.specs.Pieces.{IsGranted, IsRefused}
 
 -- A queue is for as many viewers, cells and priorities as another.
 record SameShape (q q' : Queue) : Type 0 where

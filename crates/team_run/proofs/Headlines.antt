@@ -1,18 +1,16 @@
 -- A run on one thread, from how it was carried out.
 use Rattle.std.proofs.Common.{◌≡◌, ◌≢◌, ◌⊎◌, inl, inr, ◌∙◌, ℕ, zero, suc, ◌+◌, ◌<◌, ◌≤◌, ◌==◌, Bool, true, false, true≢false, IsTrue, List, [], ◌∷◌, ◌++◌, length, cond, Option, Some, None, refl, sym, ap, subst, arith, is_none}
-use Rattle.std.specs.List.{count_by, list_any}
+use Rattle.std.specs.List.{count_by}
 use Rattle.std.specs.List.Sorted.{IsNonDecreasingBy}
-use Rattle.std.specs.Str.{bytes_eq}
 use Rattle.std.proofs.lemmas.Bool.{eq-eqb, eqb-true}
 use Rattle.std.proofs.lemmas.List.Sorted.{sum_by-IsPermutation}
-use Rattle.std.proofs.lemmas.List.Sums.{sum_by-cons, sum_by-append}
-use Rattle.arr_history.specs.declared.cell_state.CellState.{CellState}
+use Rattle.std.proofs.lemmas.List.Sums.{sum_by-append}
 use Rattle.arr_history.specs.declared.cell_state.CellState.TheVariants as cell
 use Rattle.arr_history.specs.declared.closed.Unsaved.{Unsaved}
 use Rattle.arr_history.specs.declared.event.Event.{Event}
 use Rattle.arr_history.specs.declared.event.Event.TheVariants as event
 use Rattle.arr_history.specs.History.{after, IsSame, LeadTo}
-use Rattle.arr_history.specs.Laws.{KeptLaws, IsSound, marks, puts}
+use Rattle.arr_history.specs.Laws.{KeptLaws, IsSound, puts}
 use Rattle.arr_history.specs.Legal.{IsMarked}
 use Rattle.arr_history.specs.Shape.{Shape, IsSameShape}
 use Rattle.arr_history.specs.State.{State, with_at}
@@ -27,16 +25,16 @@ use Rattle.cell_grid.specs.Pyramid.{cells_of, voxels_of, lane_of}
 use Rattle.cell_store.specs.Store.{Contents, held_of}
 use Rattle.run_report.specs.declared.report.Report.{Report}
 use Rattle.run_report.specs.declared.shot.Shot.{Shot}
+use Rattle.scale_pick.specs.Laws.{ShownMoments}
 use Rattle.sole_cache.specs.Cached.{Cached, store_of, stands, slot_of, state_at, void_at, shape_of, state_of}
 use Rattle.sole_cache.specs.Moves.{IsStoodFor, Moves}
 use Rattle.sole_cache.specs.Open.{IsOpened}
 use Rattle.sole_cache.specs.Shut.{IsClosedAt, AreClosed}
 use Rattle.sole_cache.specs.Slot.{SlotValue, slot_in}
-use Rattle.sole_cache.specs.Valid.{IsCache}
 use Rattle.stood_arrays.specs.Counts.{saves, loads}
 use Rattle.stood_arrays.specs.Entries.{puts_under, gets_under}
 use Rattle.stood_arrays.specs.Licenses.{Licenses, failed_puts}
-use Rattle.stood_arrays.specs.Opening.{store_in, is_void}
+use Rattle.stood_arrays.specs.Opening.{store_in}
 use Rattle.stood_arrays.specs.Pyramid.{shape_by, start_by}
 use Rattle.stood_arrays.specs.Standing.{StandsFor, IsVoid}
 use Rattle.view_script.specs.Script.{NumberedCommand}
@@ -182,7 +180,7 @@ nothing_stands None None e = refl
 nothing_stands None (Some x) e = absurd (true≢false (sym e))
 nothing_stands (Some i) held e = absurd (true≢false (sym e))
 
-module _ (laws : KeptLaws) (grow : TalliesGrow) (levels : List Level) (keys : KeyNames) (slots : ℕ) (c : Cached) (o : IsOpened levels keys slots c) (commands : List NumberedCommand) (now : List Contents) (report : Report)
+module _ (laws : KeptLaws) (grow : TalliesGrow) (moments : ShownMoments) (levels : List Level) (keys : KeyNames) (slots : ℕ) (c : Cached) (o : IsOpened levels keys slots c) (commands : List NumberedCommand) (now : List Contents) (report : Report)
     (r : Completes (desk c (first_queue levels)) commands now report) (ascending : IsNonDecreasingBy (λ u. u.cell) report.unsaved) (stood : IsStoodFor r.shut)
     (licensed : Licenses c.shown (fault_replies report.replies + fault_servings r.trace.servings + failed_puts report.unsaved) now) where
   abbrev d : Cached
@@ -288,7 +286,7 @@ module _ (laws : KeptLaws) (grow : TalliesGrow) (levels : List Level) (keys : Ke
   plain : IsPlainRun c.levels c.keys (length c.slots) commands c.shown all report
   plain =
       let pyramid = o.valid.fitted.pyramid in
-      let seen = runs_plain shape c.levels (desk c (first_queue levels)) r.last commands report.replies r.trace start.arrays like refl pyramid.most pyramid.some begun.arrays r.served in
+      let seen = runs_plain moments shape c.levels (desk c (first_queue levels)) r.last commands report.replies r.trace start.arrays like refl pyramid.most pyramid.some begun.arrays r.served in
       let quiet : (after start all).arrays ≡ (after start run).arrays =
       ap (λ (t : State). t.arrays) (after-append start run r.closing) ∙ closing_unwritten r.last.cache.slots r.unsaved r.closing r.closed (after start run) in
       record {

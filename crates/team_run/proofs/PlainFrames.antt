@@ -10,13 +10,13 @@ use Rattle.cell_grid.specs.declared.level.Level.{Level}
 use Rattle.cell_grid.proofs.OneToOne.{one_to_one}
 use Rattle.scale_pick.specs.declared.painted.Painted.{Painted}
 use Rattle.scale_pick.specs.declared.view.View.{View}
+use Rattle.scale_pick.specs.Laws.{ShownMoments}
 use Rattle.scale_pick.specs.Moment.{ShowsMoment}
 use Rattle.scale_pick.specs.Notes.{notes_of}
 use Rattle.scale_pick.specs.Painted.{painted_of, IsComplete}
-use Rattle.scale_pick.specs.Painting.{Shows, IsPainted, IsPainting}
+use Rattle.scale_pick.specs.Painting.{IsShown, IsPainted, IsPainting}
 use Rattle.scale_pick.specs.Picture.{Pixels, IsFilled, place}
 use Rattle.scale_pick.specs.Wanted.{covers, wanted_level, best_level}
-use Rattle.scale_pick.proofs.MomentLemmas.{shows_moment}
 use Rattle.scale_pick.proofs.PaintedLemmas.{complete_is}
 use Rattle.sole_cache.specs.Cached.{Cached, shape_of, state_of}
 use Rattle.whole_affine.specs.Affine.{Map}
@@ -40,12 +40,12 @@ wanted_exists : (levels : List Level) (view : View) (given : Option ℕ) → 0 <
 wanted_exists levels view None some h = best_exists levels view.affine some
 wanted_exists levels view (Some level) some h = h
 
-module _ (b : Shape) (a : Cached) (levels : List Level) (view : View) (events : List Event) (arrays : ℕ → ℕ → ℕ) (shape : IsSameShape b (shape_of a)) (is : a.levels ≡ levels)
+module _ (moments : ShownMoments) (b : Shape) (a : Cached) (levels : List Level) (view : View) (events : List Event) (arrays : ℕ → ℕ → ℕ) (shape : IsSameShape b (shape_of a)) (is : a.levels ≡ levels)
     (same : AreSame b (state_of a).arrays arrays) (calm : AreCalm events) (legal : AreLegal (shape_of a) (state_of a) events) where
   -- what a pixel shows is the number of its voxel in the plain arrays
-  pixel_plain : (x y level value : ℕ) → Shows levels view (notes_of view.strategy events) x y level value → ShowsPlain levels b.is_told arrays view x y level value
-  pixel_plain x y level value shows = go (shows_moment (shape_of a) (state_of a) events 0 levels view x y value level legal
-      (subst (λ (e : List Event). Shows levels view (notes_of view.strategy e) x y level value) (sym (calm_mine events calm)) shows))
+  pixel_plain : (wanted x y level value : ℕ) → IsShown levels view (notes_of view.strategy events) wanted x y value level → ShowsPlain levels b.is_told arrays view x y level value
+  pixel_plain wanted x y level value shown = go (moments (shape_of a) (state_of a) events 0 levels view wanted x y value level legal
+      (subst (λ (e : List Event). IsShown levels view (notes_of view.strategy e) wanted x y value level) (sym (calm_mine events calm)) shown))
     where
       go : ShowsMoment levels view (shape_of a) (state_of a) events x y level value → ShowsPlain levels b.is_told arrays view x y level value
       go (inl dark) = inl dark
@@ -64,7 +64,7 @@ module _ (b : Shape) (a : Cached) (levels : List Level) (view : View) (events : 
       )
 
   painted_plain : (wanted x y value mask : ℕ) → IsPainted levels view (notes_of view.strategy events) wanted x y value mask → ShowsPlain levels b.is_told arrays view x y mask value ⊎ ((mask ≡ 255) × (value ≡ 0))
-  painted_plain wanted x y value mask (inl s) = inl (pixel_plain x y mask value s.shows)
+  painted_plain wanted x y value mask (inl s) = inl (pixel_plain wanted x y mask value s)
   painted_plain wanted x y value mask (inr blank) = inr (blank.none, blank.dark)
 
   -- a frame whose pixels are all of the wanted level

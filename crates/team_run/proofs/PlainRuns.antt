@@ -16,6 +16,7 @@ use Rattle.run_report.specs.declared.reply.Reply.{Reply}
 use Rattle.run_report.specs.declared.shot.Shot.{Shot}
 use Rattle.fetchers.specs.declared.fetched.Fetched.{Fetched}
 use Rattle.scale_pick.specs.declared.view.View.{View}
+use Rattle.scale_pick.specs.Laws.{ShownMoments}
 use Rattle.scale_pick.specs.Notes.{notes_of}
 use Rattle.scale_pick.specs.Painted.{painted_of}
 use Rattle.scale_pick.specs.Painting.{IsPainting}
@@ -57,7 +58,7 @@ same_written b f g cell at x same c inside told i few = choose (cell == c) refl
         value false = same c inside told i few
     choose false e = same c inside told i few
 
-module _ (b : Shape) (levels : List Level) (a d : Desk) (arrays : ℕ → ℕ → ℕ) (shape : IsSameShape b (shape_of a.cache)) (is : levels_at a ≡ levels) (few : length levels ≤ 8) (some : 0 < length levels) (same : AreSame b (state_of a.cache).arrays arrays) where
+module _ (moments : ShownMoments) (b : Shape) (levels : List Level) (a d : Desk) (arrays : ℕ → ℕ → ℕ) (shape : IsSameShape b (shape_of a.cache)) (is : levels_at a ≡ levels) (few : length levels ≤ 8) (some : 0 < length levels) (same : AreSame b (state_of a.cache).arrays arrays) where
   -- what a command leaves of plain arrays, and what it sees of them
   abbrev Steps : Command → Answer → List Shot → Type 0
   Steps command told shots = (now : ℕ → ℕ → ℕ) × (PlainStep levels b.is_told arrays command told shots now × AreSame b (state_of d.cache).arrays now)
@@ -127,7 +128,7 @@ module _ (b : Shape) (levels : List Level) (a d : Desk) (arrays : ℕ → ℕ �
       subst (λ l. IsPainting l view (notes_of view.strategy events) shot.picture) is (subst (λ (e : List Event). IsPainting (levels_at a) view (notes_of view.strategy e) shot.picture) (sym viewed.events_are) viewed.frame.painting) in
       let told : painted ≡ painted_of (wanted_level levels view) shot.picture = subst (λ l. painted ≡ painted_of (wanted_level l view) shot.picture) is viewed.told in
       let exists : HasLevel levels view = subst (λ l. HasLevel l view) is viewed.exists in
-      (arrays, ((shot, one, under, viewed.shown, plain_frame b a.cache levels view events arrays shape is same calm led.legal painted shot.picture few some exists viewed.filled painting told, refl), quiet_plain events (calm_unwritten events calm) led))
+      (arrays, ((shot, one, under, viewed.shown, plain_frame moments b a.cache levels view events arrays shape is same calm led.legal painted shot.picture few some exists viewed.filled painting told, refl), quiet_plain events (calm_unwritten events calm) led))
   view_plain viewer name view shot shots events calls stores (answer.Refused refusal.Outside) one under viewed led = (arrays, ((shot, one, under, viewed.hidden, refl), none_plain events viewed.no_events led))
   view_plain viewer name view shot shots events calls stores (answer.Refused (refusal.TooLarge value)) one under viewed led = absurd viewed
   view_plain viewer name view shot shots events calls stores (answer.Refused (refusal.Acquire err)) one under viewed led =
@@ -147,14 +148,14 @@ module _ (b : Shape) (levels : List Level) (a d : Desk) (arrays : ℕ → ℕ �
   step_plain viewer (command.Fetch count) told t (none, fetched) led =
       fetch_plain count t.shots none told fetched.result fetched.told_is (quiet_plain t.events (calm_unwritten t.events (servings_calm a d t.servings t.events t.calls fetched.are)) led)
 
-pub runs_plain : (b : Shape) (levels : List Level) (a d : Desk) (commands : List NumberedCommand) (replies : List Reply) (trace : Trace) (arrays : ℕ → ℕ → ℕ)
+pub runs_plain : ShownMoments → (b : Shape) (levels : List Level) (a d : Desk) (commands : List NumberedCommand) (replies : List Reply) (trace : Trace) (arrays : ℕ → ℕ → ℕ)
     → IsSameShape b (shape_of a.cache) → levels_at a ≡ levels → length levels ≤ 8 → 0 < length levels → AreSame b (state_of a.cache).arrays arrays → ServesTasks a commands replies trace d
     → (now : ℕ → ℕ → ℕ) × (ArePlain levels b.is_told arrays commands replies trace.shots now × AreSame b (state_of d.cache).arrays now)
-runs_plain b levels a d [] [] trace arrays shape is few some same served = (arrays, ((ap (λ (t : Trace). t.shots) served.0, refl), subst (λ (x : Desk). AreSame b (state_of x.cache).arrays arrays) (sym served.1) same))
-runs_plain b levels a d (c ∷ commands) (r ∷ replies) trace arrays shape is few some same (mid, first, rest, split, one, others) =
+runs_plain moments b levels a d [] [] trace arrays shape is few some same served = (arrays, ((ap (λ (t : Trace). t.shots) served.0, refl), subst (λ (x : Desk). AreSame b (state_of x.cache).arrays arrays) (sym served.1) same))
+runs_plain moments b levels a d (c ∷ commands) (r ∷ replies) trace arrays shape is few some same (mid, first, rest, split, one, others) =
     let moves = one.leads.cache.moves in
-    let step = step_plain b levels a mid arrays shape is few some same c.actor c.command r.answer first one.served moves.led in
-    let more = runs_plain b levels mid d commands replies rest step.0 (shape_trans b (shape_of a.cache) (shape_of mid.cache) shape moves.shape) (moves.levels ∙ is) few some step.1.1 others in
+    let step = step_plain moments b levels a mid arrays shape is few some same c.actor c.command r.answer first one.served moves.led in
+    let more = runs_plain moments b levels mid d commands replies rest step.0 (shape_trans b (shape_of a.cache) (shape_of mid.cache) shape moves.shape) (moves.levels ∙ is) few some step.1.1 others in
     (more.0, ((step.0, first.shots, rest.shots, ap (λ (t : Trace). t.shots) split, step.1.0, more.1.0), more.1.1))
-runs_plain b levels a d [] (r ∷ replies) trace arrays shape is few some same served = absurd served
-runs_plain b levels a d (c ∷ commands) [] trace arrays shape is few some same served = absurd served
+runs_plain moments b levels a d [] (r ∷ replies) trace arrays shape is few some same served = absurd served
+runs_plain moments b levels a d (c ∷ commands) [] trace arrays shape is few some same served = absurd served

@@ -1,6 +1,6 @@
 -- What a command is, over whatever cache: its events, its picture and its calls of the queue, by its answer. k is the number of the pass
 -- that carries it out, and viewer that of the queue's viewer. No cache, slot or moment stands in it.
-use Rattle.std.specs.Prelude.{◌≡◌, ℕ, ◌<◌, Bool, true, false, List, [], ◌∷◌, ◌++◌, Option, None, Some, Result, Ok, Err}
+use Rattle.std.specs.Prelude.{◌≡◌, ℕ, ◌<◌, Bool, true, false, List, [], ◌∷◌, ◌++◌, None, Some, Result, Ok, Err}
 use Rattle.arr_history.specs.declared.event.Event.{Event}
 use Rattle.arr_history.specs.declared.event.Event.TheVariants.{Unpin}
 use Rattle.call_events.specs.Voxels.{IsGet, IsSet}

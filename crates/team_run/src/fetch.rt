@@ -1,5 +1,5 @@
 // Fetches.
-ghost use Rattle.std.specs.Prelude.{◌≡◌, ◌<◌, []};
+ghost use Rattle.std.specs.Prelude.{◌<◌, []};
 ghost use Rattle.team_run.specs.Desk.{IsReady, desk};
 ghost use Rattle.team_run.specs.Serve.{AnswersTask};
 ghost use Rattle.view_script.specs.declared.command.Command.TheVariants.{Fetch};

@@ -1,5 +1,5 @@
 // Tasks, one after another.
-ghost use Rattle.std.specs.Prelude.{◌≡◌, ◌+◌, ◌<◌, ◌≤◌, ◌∷◌, [], ◌++◌, All, None, length, map, cond, count_by, vec_len, vec_capacity};
+ghost use Rattle.std.specs.Prelude.{◌≡◌, ◌+◌, ◌<◌, ◌≤◌, ◌∷◌, [], All, length, map, cond, count_by, vec_len, vec_capacity};
 ghost use Rattle.std.specs.Option.{option_to_list};
 ghost use Rattle.team_run.specs.Desk.{IsReady, desk};
 ghost use Rattle.team_run.specs.Serve.{AnswersTask, Adds};

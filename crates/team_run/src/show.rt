@@ -1,5 +1,5 @@
 // Views: a frame each, and a shot.
-ghost use Rattle.std.specs.Prelude.{◌≡◌, ◌<◌, ◌∷◌, [], false, IfErr, IfOk, IsTrue, OnOk, length};
+ghost use Rattle.std.specs.Prelude.{◌≡◌, ◌<◌, false, IfErr, IfOk, OnOk, length};
 ghost use Rattle.std.specs.Option.{option_to_list};
 ghost use Rattle.hier_paint.specs.Frames.{IsFrame, IsCutOff};
 ghost use Rattle.scale_pick.specs.declared.strategy.Strategy.TheVariants.{Blocking};

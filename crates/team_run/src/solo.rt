@@ -15,6 +15,7 @@ use cell_grid::Geometry;
 use cell_store::Store;
 use plain_data::Items;
 use run_report::Report;
+use scale_pick::pictures_show_moments;
 use sole_cache::{SoleCache, moves_compose};
 use std::alloc::Global;
 use view_script::Script;
@@ -97,6 +98,7 @@ fn run<S: Store>(mut cache: SoleCache<S>, stage: Stage) -> Ran<S>
     moves_compose();
     tallies_grow();
     histories_keep_laws();
+    pictures_show_moments();
     let report = Report::new(
         Items::from_vec(replies),
         Items::from_vec(shots),

@@ -2,7 +2,6 @@ use Rattle.std.proofs.Common.{◌≡◌, ◌↔◌, ◌∙◌, ◌<◌, IsTrue, 
 use Rattle.cell_grid.specs.declared.level.Level.{Level}
 use Rattle.scale_pick.specs.Painted.{painted_of, IsComplete}
 use Rattle.scale_pick.specs.Wanted.{wanted_level}
-use Rattle.scale_pick.proofs.CompleteLemmas.{blocking_complete}
 use Rattle.hier_paint.specs.Hands.{sight}
 use Rattle.hier_paint.specs.Frames.{IsCutOff}
 use Rattle.hier_paint.proofs.Framing.{frame_done, frame_cut}
@@ -35,7 +34,7 @@ returns-in-Ok-clause-blocking g c = λ blocking.
     let count : length c.geometry.result.now ≡ length levels = ap (λ (ls : List Level). length ls) (c.geometry.ensures ∙ sym same) in
     let exists : wanted_level levels c.args.view.now < length levels = omega (arith, want, count, c.wanted_level-wanted.ensures.exists) in
     let frame = returns-in-Ok-clause-frame g c in
-    blocking_complete levels c.args.view.now frame.events c.paint_rows-outcome.new.picture blocking exists c.paint_rows-outcome.ensures.filled frame.painting
+    c.blocking_is_complete.ensures levels c.args.view.now frame.events c.paint_rows-outcome.new.picture blocking exists c.paint_rows-outcome.ensures.filled frame.painting
 
 pub returns-in-Err-clause-refused : goal.returns-in-Err-clause-refused
 returns-in-Err-clause-refused g c =

@@ -1,5 +1,5 @@
-use Rattle.scale_pick.proofs.MomentLemmas.{shows_moment}
+use Rattle.scale_pick.proofs.MomentLemmas.{show_moments}
 use Rattle.scale_pick.proofs.laws.pictures_show_moments.Goals as goal
 
 pub returns : goal.returns
-returns c = λ b s all k levels view wanted x y value mask legal shown. shows_moment b s all k levels view x y value mask legal shown.shows
+returns c = show_moments c.looks_are_noted.ensures c.reads_are_of_moments.ensures

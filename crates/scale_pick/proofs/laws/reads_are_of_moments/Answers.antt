@@ -2,4 +2,4 @@ use Rattle.scale_pick.proofs.MomentLemmas.{had_among}
 use Rattle.scale_pick.proofs.laws.reads_are_of_moments.Goals as goal
 
 pub returns : goal.returns
-returns c = λ b s all k cell at number. had_among b s all k k cell at number
+returns c = had_among

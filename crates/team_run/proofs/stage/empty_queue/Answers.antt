@@ -1,5 +1,4 @@
 -- A volume has cells, and the queue is for them.
-use Rattle.std.proofs.Common.{◌∙◌, refl}
 use Rattle.team_run.proofs.VolumeLemmas.{some_cells}
 use Rattle.team_run.proofs.stage.empty_queue.Goals as goal
 

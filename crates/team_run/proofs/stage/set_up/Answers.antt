@@ -1,5 +1,5 @@
 -- What is set up is what was made.
-use Rattle.std.proofs.Common.{◌≡◌, ◌∙◌, ℕ, Option, count_by, map, refl, subst, ap, arith}
+use Rattle.std.proofs.Common.{◌≡◌, ℕ, Option, count_by, map, subst, ap, arith}
 use Rattle.team_run.specs.declared.task.Due.{Due}
 use Rattle.team_run.specs.Range.{commands_of_phases, ranged}
 use Rattle.team_run.specs.Task.{is_view, numbered}
