@@ -142,3 +142,10 @@ __attribute__((destructor)) static void tell_count(void) {
     int len = snprintf(text, sizeof text, "%ld\n", made);
     if (fd >= 0) syscall(SYS_write, fd, text, len);
 }
+
+/* The program ends by this call, which runs no destructor. */
+void _exit(int status) {
+    tell_count();
+    syscall(SYS_exit_group, status);
+    __builtin_unreachable();
+}

@@ -60,6 +60,8 @@ class Team:
         self.random = random.Random(seed)
         self.actors, self.fetchers = self.number(2, 16), self.random.choice([0, 0, 1, 2, 4, 16])
         self.levels = [Level([self.number(4, 12) for _ in range(3)], [self.number(1, 4) for _ in range(3)], self.random.choice(list(n5.WIDTHS)), [n + 1] * 3) for n in range(self.number(1, 3))]
+        # as many as sums of a level's coordinates, so that each actor has voxels of its own
+        self.actors = min(self.actors, max(sum(level.dims) - 2 for level in self.levels))
         self.volume = Volume("vol", False, self.levels)
         self.arrays = Arrays(self.volume)
         self.names = 0
