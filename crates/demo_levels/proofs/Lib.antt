@@ -1,2 +1,2 @@
 -- Lemmas of the law.
-mod ReadLemmas
+pub mod ReadLemmas
