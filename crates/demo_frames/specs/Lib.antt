@@ -1,0 +1,4 @@
+pub mod Edited
+pub mod Pictures
+pub mod Showing
+pub mod Answers
