@@ -1,5 +1,7 @@
 -- Lemmas of the call by threads.
 mod WordLemmas
-mod PlayedNames
 mod RunLemmas
 mod HeadlineLemmas
+mod DemoLemmas
+mod MadeLemmas
+mod DecidedLemmas

@@ -27,8 +27,8 @@ use Rattle.viewrun_calls.specs.Volume.{keys_of}
 use Rattle.viewrun_calls.specs.Work.{WritesShots}
 use Rattle.viewrun_calls.proofs.StoresLemmas.{licensed_on, pictures_written}
 use Rattle.viewrun_calls.proofs.ViewLemmas.{commands_named, numbered_name, shot_name, views_counted}
-use Rattle.thread_calls.specs.Work.{FinishesRun, RunsAndWrites, RunsOpen, StopsAt}
-use Rattle.thread_calls.proofs.PlayedNames.{played_named}
+use Rattle.thread_run.proofs.Leaving.{played_left}
+use Rattle.thread_calls.specs.Run.{FinishesRun, RunsAndWrites, RunsOpen, StopsAt}
 
 -- the stores come back
 pub as_many_stores : (levels : List Level) (keys : KeyNames) (slots fetchers : ℕ) (phases : List (List (List NumberedCommand))) (old mid : List Contents) (answer : Result Report RunErr) (trail : Option (List Event))
@@ -44,7 +44,7 @@ module _ (levels : List Level) (keys : KeyNames) (slots fetchers : ℕ) (script 
   -- the shots are those of the script's views, in order and under their names
   names_of_views : (report : Report) (history : List Event) → IsThreadRun levels keys slots fetchers (scenes_over levels script) old mid report history → map shot_name report.shots ≡ view_names script.phases
   names_of_views report history run =
-      ap (map shot_name) run.shots_are ∙ played_named levels fetchers 1 (scenes_over levels script) run.replies run.shots run.servings run.deeds run.played ∙ ap (flat_map numbered_name) (scenes_flat levels script)
+      ap (map shot_name) run.shots_are ∙ (played_left levels fetchers 1 (scenes_over levels script) run.replies run.shots run.servings run.deeds run.played).pictured ∙ ap (flat_map numbered_name) (scenes_flat levels script)
       ∙ commands_named levels script
 
   views_shot : (report : Report) (trail : Option (List Event)) → ThreadAnswers levels keys slots fetchers (scenes_over levels script) old mid (Ok report) trail → length report.shots ≡ view_count script.phases

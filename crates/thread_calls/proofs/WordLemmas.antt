@@ -1,7 +1,8 @@
 -- Command words ask for at most 16 fetchers.
-use Rattle.std.proofs.Common.{◌≡◌, ◌∙◌, inl, inr, ◌≤◌, ◌&&◌, ◌^◌, ◌-◌, ℕ, Bool, true, false, List, [], ◌∷◌, Option, None, Some, codes, refl, sym, nat_le, if◌then◌else◌}
+use Rattle.std.proofs.Common.{◌≡◌, ◌∙◌, inl, inr, ◌≤◌, ◌&&◌, ◌^◌, ◌-◌, ℕ, Bool, true, false, List, [], ◌∷◌, Option, None, Some, Result, Ok, Err, codes, refl, sym, subst, nat_le, if◌then◌else◌}
 use Rattle.std.proofs.lemmas.Bool.Decides.{leb_tells}
-use Rattle.std.specs.Prelude.{option_and_then, option_map}
+use Rattle.std.specs.Prelude.{IfOk, option_and_then, option_map}
+use Rattle.std.specs.declared.alloc.AllocError.{AllocError}
 use Rattle.std.specs.Str.{bytes_eq}
 use Rattle.std.specs.Str.Parse.{digits_value}
 use Rattle.command_words.specs.Grammar.{Uses, given_in, value_in}
@@ -9,7 +10,7 @@ use Rattle.command_words.specs.Number.{are_digits, number_in}
 use Rattle.command_words.specs.Request.{asked, demo_in, fetchers_in, info_in, request_in, root_in, run_in, slots_in, solo_in}
 use Rattle.command_words.specs.declared.request.Request.{Request}
 use Rattle.command_words.specs.declared.request.Request.TheVariants.{Demo, Info, Run, Solo}
-use Rattle.thread_calls.specs.Work.{AsksFewFetchers}
+use Rattle.thread_calls.specs.Run.{AsksFewFetchers}
 
 -- the values of names
 abbrev Values : Type 0
@@ -60,7 +61,7 @@ few_of_run (Some script) None fetchers few = tt
 few_of_run (Some script) (Some slots) None few = tt
 few_of_run (Some script) (Some slots) (Some fetchers) few = few
 
-pub few_fetchers : (words : List (List ℕ)) → AsksFewFetchers (request_in words)
+few_fetchers : (words : List (List ℕ)) → AsksFewFetchers (request_in words)
 unfolding request_in
 few_fetchers [] = tt
 few_fetchers (command ∷ words) =
@@ -69,3 +70,7 @@ few_fetchers (command ∷ words) =
     (either (bytes_eq command (codes "run")) _ _
     (of_uses run_in (λ value. few_of_run (value (codes "operand")) (slots_in value) (fetchers_in value) (option_at_most 16 (value (codes "fetchers")))) (given_in (codes "slots" ∷ codes "fetchers" ∷ []) words))
     (either (bytes_eq command (codes "demo")) _ _ (of_uses demo_in (λ value. few_of_demo (option_and_then (number_in 20 (2 ^ 64 - 1)) (value (codes "operand")))) (given_in [] words)) tt)))
+
+pub few_read : (read : Result (Option Request) AllocError) (words : List (List ℕ)) → IfOk read (λ request. request ≡ request_in words) → IfOk read AsksFewFetchers
+few_read (Ok request) words is = subst AsksFewFetchers (sym is) (few_fetchers words)
+few_read (Err memory) words is = tt

@@ -1,9 +1,10 @@
 // The run of a script by threads: what is read, opened and run, and the first refusal in this order.
-ghost use Rattle.std.specs.Prelude.{◌≡◌, ◌≤◌, [], length, map, vec_capacity, vec_len};
+ghost use Rattle.std.specs.Prelude.{◌≡◌, ◌^◌, ◌≤◌, [], length, map, vec_capacity, vec_len};
 ghost use Rattle.std.specs.Option.{option_map};
 ghost use Rattle.std.specs.Result.{ForOk};
 ghost use Rattle.pin_rule.specs.Trails.{events_of};
-ghost use Rattle.thread_calls.specs.Work.{FinishesRun, OpensAndRuns, ReadsAndRuns, RunsOpen};
+ghost use Rattle.thread_calls.specs.Ending.{HasFewShots};
+ghost use Rattle.thread_calls.specs.Run.{FinishesRun, OpensAndRuns, ReadsAndRuns, RunsOpen};
 ghost use Rattle.view_script.specs.Script.{IsScript};
 ghost use Rattle.viewrun_calls.specs.Volume.{IsMade};
 
@@ -33,7 +34,8 @@ pub(crate) fn run_script<S: Store + Send, T: Threads + Wait + Sync, R: Source, G
     requires some_stores { 1 ≤ vec_len stores }
     requires few_stores { vec_len stores ≤ 16 }
     requires few_fetchers { fetchers ≤ 16 }
-    ensures { ReadsAndRuns slots fetchers (R.stream source.old) (R.stream source.new) (map S.contents stores.items) (map S.contents result.stores.items) result.work (option_map events_of result.trail) }
+    ensures runs { ReadsAndRuns slots fetchers (R.stream source.old) (R.stream source.new) (map S.contents stores.items) (map S.contents result.stores.items) result.work (option_map events_of result.trail) }
+    ensures few_shots { HasFewShots result.work }
 {
     match script_of(alloc, source) {
         Ok(script) => open_and_run(rt, alloc, script, slots, fetchers, stores, gate),
@@ -42,7 +44,7 @@ pub(crate) fn run_script<S: Store + Send, T: Threads + Wait + Sync, R: Source, G
 }
 
 /// Opens a script's volume, whose attributes the first store holds, and runs it.
-fn open_and_run<S: Store + Send, T: Threads + Wait + Sync, G: Gate>(
+pub(crate) fn open_and_run<S: Store + Send, T: Threads + Wait + Sync, G: Gate>(
     rt: &T,
     alloc: Global,
     script: Script,
@@ -55,7 +57,8 @@ fn open_and_run<S: Store + Send, T: Threads + Wait + Sync, G: Gate>(
     requires some_stores { 1 ≤ vec_len stores }
     requires few_stores { vec_len stores ≤ 16 }
     requires few_fetchers { fetchers ≤ 16 }
-    ensures { OpensAndRuns script slots fetchers (map S.contents stores.items) (map S.contents result.stores.items) result.work (option_map events_of result.trail) }
+    ensures runs { OpensAndRuns script slots fetchers (map S.contents stores.items) (map S.contents result.stores.items) result.work (option_map events_of result.trail) }
+    ensures few_shots { HasFewShots result.work }
 {
     match open_volume(alloc, &script.head, &mut stores[0]) {
         Ok(geometry) => run_open(rt, alloc, geometry, script, slots, fetchers, stores, gate),
@@ -80,7 +83,8 @@ fn run_open<S: Store + Send, T: Threads + Wait + Sync, G: Gate>(
     requires some_stores { 1 ≤ vec_len stores }
     requires few_stores { vec_len stores ≤ 16 }
     requires few_fetchers { fetchers ≤ 16 }
-    ensures { RunsOpen script slots fetchers geometry (map S.contents stores.items) (map S.contents result.stores.items) result.work (option_map events_of result.trail) }
+    ensures runs { RunsOpen script slots fetchers geometry (map S.contents stores.items) (map S.contents result.stores.items) result.work (option_map events_of result.trail) }
+    ensures few_shots { HasFewShots result.work }
 {
     let Ok(keys) = volume_keys(&script.head, &geometry) else {
         return unrun(Stop::Memory, stores);
@@ -98,8 +102,10 @@ fn run_open<S: Store + Send, T: Threads + Wait + Sync, G: Gate>(
 fn finish<S: Store>(alloc: Global, ran: ThreadRan<S>, unwritten: Vec<Unwritten>) -> ThreadWorked<S>
     requires none { unwritten.items ≡ [] }
     requires room { ForOk ran.report (λ report. length report.shots ≤ vec_capacity unwritten) }
+    requires few_shots { ForOk ran.report (λ report. length report.shots ≤ 2 ^ 20) }
     requires some_stores { 1 ≤ vec_len ran.stores }
-    ensures { FinishesRun ran.report (option_map events_of ran.trail) (map S.contents ran.stores.items) (map S.contents result.stores.items) result.work (option_map events_of result.trail) }
+    ensures finishes { FinishesRun ran.report (option_map events_of ran.trail) (map S.contents ran.stores.items) (map S.contents result.stores.items) result.work (option_map events_of result.trail) }
+    ensures few_shots { HasFewShots result.work }
 {
     let ThreadRan {
         report,

@@ -18,6 +18,11 @@ finish-requires-clause-room g c = λ report is.
     let shots = a_shot_a_view _ _ _ _ c.args.script _ _ report _ _ is c.thread_run-ran.ensures in
     omega (arith, shots, c.view_count.ensures, ap view_count c.as_slice.ensures, c.in-Ok-with_capacity.ensures.capacity)
 
+pub finish-requires-clause-few_shots : goal.finish-requires-clause-few_shots
+finish-requires-clause-few_shots g c = λ report is.
+    let shots = a_shot_a_view _ _ _ _ c.args.script _ _ report _ _ is c.thread_run-ran.ensures in
+    omega (arith, shots, few_views c.args.script.phases, c.requires.script.count)
+
 pub finish-requires-clause-some_stores : goal.finish-requires-clause-some_stores
 finish-requires-clause-some_stores g c =
     let same : length (map g.S.Store.contents c.thread_run-ran.result.stores.items) ≡ length (map g.S.Store.contents c.args.stores.items) = as_many_stores c.args.geometry c.in-Ok.keys c.args.slots c.args.fetchers (scenes_over c.args.geometry c.args.script) _ _ c.thread_run-ran.result.report (option_map events_of c.thread_run-ran.result.trail) c.thread_run-ran.ensures in
@@ -25,6 +30,6 @@ finish-requires-clause-some_stores g c =
     let after = length-map c.thread_run-ran.result.stores.items g.S.Store.contents in
     omega (arith, same, before, after, c.requires.some_stores)
 
-pub returns : goal.returns
-returns g c =
-    run_finished _ _ _ _ c.args.script _ _ _ _ _ _ _ (subst IsPyramid c.geometry.view_is c.geometry.invariant.pyramid) c.requires.script.names c.in-Ok.ensures c.thread_run-ran.ensures c.finish.ensures
+pub returns-clause-runs : goal.returns-clause-runs
+returns-clause-runs g c =
+    run_finished _ _ _ _ c.args.script _ _ _ _ _ _ _ (subst IsPyramid c.geometry.view_is c.geometry.invariant.pyramid) c.requires.script.names c.in-Ok.ensures c.thread_run-ran.ensures c.finish.ensures.finishes
