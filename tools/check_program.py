@@ -6,7 +6,7 @@
 It shows what no contract can say, since a folder is outside: an edit survives its eviction and a second run; a file where
 the folder of edited cells should be is a fault that changes no other file; a view's picture is written, and put again over
 an old one that was longer; where the folder of pictures can't be, the picture is named; six actors on threads edit and read
-three cells, and too few slots for them are refused; scripts without a last line end, without a byte, and of one byte too
+three cells, and too few slots for them are refused; the demonstration's line is the one of its number; scripts without a last line end, without a byte, and of one byte too
 many get their statuses at once. `.ci/run` runs it after `rt ci`.
 """
 import os
@@ -19,6 +19,8 @@ import n5
 HEAD = "raw vol uint8 6 2 2 2 2 2\n"
 EDITED = bytes.fromhex("000000030000000200000002000000020900000000000000")
 UNIT = "1 1 0 0 0 1 0 0 0 0\n"
+# The sums of the demonstration's pictures, by their number, computed apart from the program.
+SUMS = {0: 133205634, 1: 133231600, 2: 133131660, 7: 133130260, 2**64 - 1: 133170152}
 NOTHING = "tally hits 0 misses 0 loads 0 evictions 0 writebacks 0 closed 0\n"
 
 
@@ -130,6 +132,16 @@ def threads_edit_and_read(program):
     expect("too few slots", folder.call("run", "script", "--slots", "15", "--fetchers", "3"), ("slots 15 outside 16 to 4096\n", 9))
 
 
+def a_number_decides_the_line(program):
+    for number, total in SUMS.items():
+        folder = Folder(program)
+        expect("the line of the demonstration", folder.call("demo", str(number)), (f"demo {number} cells 1152 edits 1024 complete 4 sum {total}\n", 0))
+        expect("the sum of its pictures", sum(sum(data[-512 * 512 :]) for data in folder.pictures().values()), total)
+    folder = Folder(program)
+    folder.write("demo", b"")
+    expect("a demonstration whose folder can't be made", folder.call("demo", "1"), ("store write-fault\n", 5))
+
+
 def scripts_get_their_statuses(program):
     folder = Folder(program)
     folder.run(HEAD.rstrip("\n"), 0, NOTHING)
@@ -146,6 +158,7 @@ def main():
     a_picture_is_put_again(program)
     a_picture_that_fails_is_named(program)
     threads_edit_and_read(program)
+    a_number_decides_the_line(program)
     scripts_get_their_statuses(program)
     print("the program over real folders: as it is to be")
 
