@@ -12,10 +12,7 @@ use Rattle.pin_rule.specs.declared.made.Made.{Made}
 use Rattle.pin_rule.specs.declared.pins.Pins.{Pins}
 use Rattle.pin_rule.specs.Going.{Goes}
 use Rattle.pin_rule.specs.Trying.{SameRoster}
-use Rattle.volatile_cell.specs.Asked.{Asked}
-use Rattle.queue_desk.specs.Asking.{AskingPass, AsksQueue}
 use Rattle.live_cells.specs.Voxels.{GetsCell, SetsCell}
-use Rattle.crew_tests.specs.Kept.{SameAsker}
 
 pub same_after : {S M : Type 0} (p : Plan S M) (d d' : Doing S M) (events : List Event) → Goes p d events d' → SameRoster d d'
 same_after p d d' events g = (g.number, g.ended, g.drawn)
@@ -35,6 +32,3 @@ module _ {S : Type 0} (shows : S → Contents) (t : Pins S) (d d' : Doing S (Opt
   same_set level pos x (Err Outside) h = same_if d d' h.1
   same_set level pos x (Err (TooLarge value)) h = same_if d d' h.5
   same_set level pos x (Err (Acquire err)) h = same_after _ d d' _ h.4.went
-
-pub same_asker : (d d' : AskingPass) (calls : List Asked) → AsksQueue d calls d' → SameAsker d d'
-same_asker d d' calls asked = (ap (λ (w : AskingPass). w.number) asked.same, ap (λ (w : AskingPass). w.ended) asked.same, ap (λ (w : AskingPass). w.drawn) asked.same)
