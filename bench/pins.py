@@ -12,7 +12,6 @@ there is a rustc, bench/atomics.rs is built with -O into a folder that is remove
 Two threads are timed only where there are two processors. No part of the gate.
 """
 import os
-import shutil
 import subprocess
 import sys
 import tempfile
@@ -55,20 +54,10 @@ def nanoseconds(programs, what, hands):
     return [(best[program, ROUNDS[what]] - best[program, 0]) / count * 1e9 for program in programs]
 
 
-def built(folder):
-    """Rust's own atomics as a program, where there is a rustc."""
-    rustc = shutil.which("rustc")
-    if rustc is None:
-        return []
-    program = os.path.join(folder, "atomics")
-    subprocess.run([rustc, "--edition", "2021", "-O", "-o", program, os.path.join(n5.TOP, "bench/atomics.rs")], check=True)
-    return [program]
-
-
 def main():
     program = n5.built(*sys.argv[1:2] or [None], crate="pin_time")
     with tempfile.TemporaryDirectory() as folder:
-        programs = [program] + built(folder)
+        programs = [program] + [path for path in [n5.built_rust(folder, "atomics.rs")] if path]
         print("what   threads   table ns" + ("   atomics ns" if len(programs) > 1 else ""))
         for what, hands in CASES:
             if hands == "one" or len(os.sched_getaffinity(0)) > 1:

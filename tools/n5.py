@@ -1,6 +1,8 @@
 """What the tools, the benches and the examples share: raw blocks of the N5 format, files, and where the built programs lie."""
 import os
+import shutil
 import struct
+import subprocess
 import sys
 
 TOP = os.path.dirname(os.path.dirname(os.path.abspath(__file__)))
@@ -13,6 +15,16 @@ def built(path=None, crate="viewrun"):
     if not os.access(program, os.X_OK):
         how = "examples/build" if crate == "viewrun" else f"(cd crates/{crate} && rt run)"
         sys.exit(f"{os.path.relpath(program)} isn't built yet: {how} proves and builds it")
+    return program
+
+
+def built_rust(folder, source):
+    """A program of bench/ in Rust, which is built with -O into a folder. None where there is no rustc."""
+    rustc = shutil.which("rustc")
+    if rustc is None:
+        return None
+    program = os.path.join(folder, os.path.splitext(source)[0])
+    subprocess.run([rustc, "--edition", "2021", "-O", "-o", program, os.path.join(TOP, "bench", source)], check=True)
     return program
 
 
