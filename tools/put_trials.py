@@ -2,8 +2,8 @@
 preloaded that ends it or lets a call fail, and the judgement of what a run left.
 
 Cells of one kind lie side by side along x. A script sets some voxels of each cell to one number, cell after cell, once or
-more, so that cells leave in between. A block is whole where all these voxels hold one number and every other byte is as
-it must be.
+more, so that cells leave in between. A block is whole where these voxels hold one number and every other byte is as it must
+be. On threads a cell may also leave between two of its sets: then the voxels hold what those before have left.
 """
 import atexit
 import os
@@ -58,7 +58,7 @@ class Script:
             lines.append("actor\n")
             for number in self.numbers:
                 for cell in range(actor, self.cells, actors):
-                    lines += [f"set 0 {self.at(cell, place)} {number}\n" for place in self.places()]
+                    lines += [f"set 0 {self.at(cell, place)} {number}\n" for place in self.order()]
         if self.picture:
             lines.append("view shot 4 4 0 blocking 1 1 0 0 0 1 0 0 0 0\n")
         return "".join(lines)
@@ -67,9 +67,31 @@ class Script:
         gets = [f"get 0 {self.at(cell, place)}\n" for cell in range(self.cells) for place in self.places()]
         return self.head() + "actor\n" + "".join(gets)
 
-    def block(self, number):
+    def order(self):
+        """The places as they are set: the last one first, so that a block of which half was written is none of a set."""
+        return self.places()[-1:] + self.places()[:-1]
+
+    def versions(self, earlier):
+        """What a run may leave at the places of a cell, over what earlier runs left: each number, and on threads what lies between two sets."""
+        held = dict.fromkeys(self.places(), earlier[-1] if earlier else 0)
+        versions = {tuple(map(held.get, self.places()))} if earlier else set()
+        for number in self.numbers:
+            for place in self.order():
+                held[place] = number
+                if self.actors or place == self.order()[-1]:
+                    versions.add(tuple(map(held.get, self.places())))
+        return versions
+
+    def version_in(self, block):
+        """The numbers at the places of a block, or None where there is no block, or another one than these make."""
+        if block is None or len(block) != len(self.block([])):
+            return None
+        version = tuple(block[place - self.side**3] for place in self.places())
+        return version if block == self.block(version) else None
+
+    def block(self, version):
         data = bytearray(self.side**3)
-        for place in self.places():
+        for place, number in zip(self.places(), version):
             data[place] = number
         return n5.block([self.side] * 3, "uint8", []) + bytes(data)
 
@@ -115,15 +137,14 @@ class Trial:
     def wrong_files(self, lost=None):
         """What is wrong with the files: blocks that aren't whole, files that should not be there. A cell not in `lost`
         must hold the last number, if `lost` is given."""
-        wrong, found = [], self.files()
+        wrong, found, versions = [], self.files(), self.script.versions(self.earlier)
         for cell in range(self.script.cells):
             block = found.pop(f"cells/s0/{cell}/0/0", None)
-            allowed = {self.script.block(number) for number in list(self.script.numbers) + list(self.earlier)[-1:]}
-            if not self.earlier:
-                allowed.add(None)
+            allowed = versions if self.earlier else versions | {None}
             if lost is not None and cell not in lost:
-                allowed = {self.script.block(self.script.numbers[-1])}
-            if block not in allowed:
+                allowed = {(self.script.numbers[-1],) * PLACES}
+            version = self.script.version_in(block)
+            if version not in allowed or (version is None and block is not None):
                 wrong.append(f"cell {cell}: " + ("absent" if block is None else f"{len(block)} bytes, not whole"))
         picture = found.pop("views/shot.pgm", None)
         if self.script.picture and picture is not None and not (picture.startswith(b"P5\n4 4\n255\n") and len(picture) == 27):
@@ -136,8 +157,10 @@ class Trial:
         wrong, lines = [], done.stdout.decode().splitlines()
         if done.returncode != 0:
             wrong.append(f"the next run: status {done.returncode}: {lines[:2]}")
+        versions = self.script.versions(self.earlier) | (set() if self.earlier else {(0,) * PLACES})
+        told = {tuple(f"value {number}" for number in version) for version in versions}
         for cell in range(self.script.cells):
-            mine = lines[cell * PLACES : (cell + 1) * PLACES]
-            if len({line.split(" ", 1)[-1] for line in mine}) != 1:
+            mine = tuple(line.split(" ", 1)[-1] for line in lines[cell * PLACES : (cell + 1) * PLACES])
+            if mine not in told:
                 wrong.append(f"cell {cell}: the next run reads voxels of two versions")
         return wrong + self.wrong_files(lost)
