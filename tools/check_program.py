@@ -133,7 +133,8 @@ def threads_edit_and_read(program):
 
 
 def a_number_decides_the_line(program):
-    for number, total in SUMS.items():
+    # that of 1 twice, each time in an empty folder
+    for number, total in [*SUMS.items(), (1, SUMS[1])]:
         folder = Folder(program)
         expect("the line of the demonstration", folder.call("demo", str(number)), (f"demo {number} cells 1152 edits 1024 complete 4 sum {total}\n", 0))
         expect("the sum of its pictures", sum(sum(data[-512 * 512 :]) for data in folder.pictures().values()), total)
