@@ -1,16 +1,17 @@
 -- Coordinates that walk along a row.
-use Rattle.std.proofs.Common.{◌≡◌, ◌∙◌, ℕ, ◌+◌, ◌-◌, ◌*◌, ◌<◌, ◌≤◌, ◌^◌, ℤ, pos, ◌+ℤ◌, unsigned_abs, List, slice_index, slice_index_or, sym, ap, subst, arith, to_z, of_z, w64}
+use Rattle.std.proofs.Common.{◌≡◌, ◌∙◌, ℕ, ◌+◌, ◌-◌, ◌*◌, ◌<◌, ◌≤◌, ◌^◌, ℤ, pos, ◌+ℤ◌, ◌*ℤ◌, unsigned_abs, List, slice_index, slice_index_or, sym, ap, subst, arith, to_z, of_z, w64}
 use Rattle.std.proofs.lemmas.Int.{ints}
 use Rattle.std.proofs.lemmas.Nat.{mul-le}
+use Rattle.std.proofs.Math.IntN.{*ℤ_comm}
 use Rattle.std.specs.Int.{int_div_euclid}
 use Rattle.whole_affine.specs.declared.carry.Carry.{Carry}
 use Rattle.whole_affine.specs.Affine.{Map, row_of, numerator_in}
-use Rattle.whole_affine.specs.Nearest.{halves_of, nearest}
+use Rattle.whole_affine.specs.Nearest.{halves_of, nearest, nearest_coordinate}
 use Rattle.whole_affine.specs.Parts.{Parts}
 use Rattle.whole_affine.specs.Carry.{Carries, CarriesAxis}
 use Rattle.whole_affine.proofs.Division.{back}
-use Rattle.whole_affine.proofs.Carrying.{quotient_of}
-use Rattle.whole_affine.proofs.Rows.{next_numerator}
+use Rattle.whole_affine.proofs.Carrying.{quotient_of, sum_times}
+use Rattle.whole_affine.proofs.Rows.{next_numerator, numerator_ahead}
 
 -- a small coordinate shows its nearest voxel
 pub carried-voxel : (c : Carry) (n step : ℤ) (q factor : ℕ) → Carries c n step q factor → unsigned_abs c.voxel < 2 ^ 63 → to_z w64 (of_z w64 c.voxel) ≡ nearest n q factor
@@ -40,6 +41,43 @@ pub carries_axis_on : (c r : Carry) (map : Map) (factor : List ℕ) (x y axis : 
 carries_axis_on c r map factor x y axis h next by by_rest divisor =
     let m = slice_index_or (row_of map axis) 0 (pos 0) in
     subst (λ n. Carries r n m map.q (slice_index factor axis)) (next_numerator (row_of map axis) x y) (carries_on c r (numerator_in (row_of map axis) x y) m map.q (slice_index factor axis) h next by by_rest divisor)
+
+-- the halves of a numerator so many columns further on
+halves_ahead : (row : List ℤ) (x y q n : ℕ) → halves_of (numerator_in row x y) q +ℤ (pos n *ℤ (slice_index_or row 0 (pos 0) +ℤ slice_index_or row 0 (pos 0))) ≡ halves_of (numerator_in row (x + n) y) q
+halves_ahead row x y q n =
+    let m = slice_index_or row 0 (pos 0) in
+    let twice : pos n *ℤ (m +ℤ m) ≡ (pos n *ℤ m) +ℤ (pos n *ℤ m) = *ℤ_comm (pos n) (m +ℤ m) ∙ sum_times m m n ∙ ap (λ z. z +ℤ z) (*ℤ_comm m (pos n)) in
+    ap (λ z. halves_of (numerator_in row x y) q +ℤ z) twice ∙ halves_sum (numerator_in row x y) (pos n *ℤ m) q ∙ ap (λ z. halves_of z q) (sym (numerator_ahead row x y n))
+  where
+    halves_sum : (a b : ℤ) (q : ℕ) → halves_of a q +ℤ (b +ℤ b) ≡ halves_of (a +ℤ b) q
+    halves_sum a b q = omega (arith, ints)
+
+-- the nearest coordinate so many columns further on
+pub coordinate_ahead : (c : Carry) (map : Map) (factor : List ℕ) (x y axis n : ℕ) → CarriesAxis c map factor x y axis
+    → int_div_euclid (halves_of (numerator_in (row_of map axis) x y) map.q +ℤ (pos n *ℤ (slice_index_or (row_of map axis) 0 (pos 0) +ℤ slice_index_or (row_of map axis) 0 (pos 0)))) (pos c.divisor) ≡ nearest_coordinate map factor (x + n) y axis
+coordinate_ahead c map factor x y axis n h =
+    ap (λ z. int_div_euclid z (pos c.divisor)) (halves_ahead (row_of map axis) x y map.q n) ∙ ap (λ d. int_div_euclid (halves_of (numerator_in (row_of map axis) (x + n) y) map.q) (pos d)) h.divisor
+
+-- the coordinate so many columns further on
+pub carries_axis_ahead : (c r : Carry) (map : Map) (factor : List ℕ) (x y axis n : ℕ) → CarriesAxis c map factor x y axis
+    → ((t s : ℤ) → Parts t c.divisor c.voxel c.rest → Parts s c.divisor c.by c.by_rest → Parts (t +ℤ (pos n *ℤ s)) c.divisor r.voxel r.rest)
+    → r.by ≡ c.by → r.by_rest ≡ c.by_rest → r.divisor ≡ c.divisor → CarriesAxis r map factor (x + n) y axis
+carries_axis_ahead c r map factor x y axis n h ahead by by_rest divisor =
+    let row = row_of map axis in
+    let m = slice_index_or row 0 (pos 0) in
+    let here = subst (λ t. Parts t c.divisor r.voxel r.rest) (halves_ahead row x y map.q n) (ahead (halves_of (numerator_in row x y) map.q) (m +ℤ m) h.here h.gain) in
+    record {
+      divisor = divisor ∙ h.divisor;
+      here = subst (λ d. Parts (halves_of (numerator_in row (x + n) y) map.q) d r.voxel r.rest) (sym divisor) here;
+      gain = subst (λ d. Parts (m +ℤ m) d r.by r.by_rest) (sym divisor) (subst (λ v. Parts (m +ℤ m) c.divisor v r.by_rest) (sym by) (subst (λ w. Parts (m +ℤ m) c.divisor c.by w) (sym by_rest) h.gain));
+    }
+
+-- a walk that fits still fits further on
+pub fits_ahead : (v w b n k : ℕ) → k ≤ n → w ≤ v + k * (b + 1) → v + n * (b + 1) ≤ 2 ^ 48 → w + (n - k) * (b + 1) ≤ 2 ^ 48
+fits_ahead v w b n k le near fits =
+    let all : n ≡ k + (n - k) = omega arith in
+    let whole : n * (b + 1) ≡ k * (b + 1) + (n - k) * (b + 1) = ap (λ m. m * (b + 1)) all ∙ omega arith in
+    omega (arith, whole)
 
 -- the coordinate that a division gives
 pub carries_from : (c : Carry) (t s n step : ℤ) (q factor d : ℕ) → Parts t d c.voxel c.rest → Parts s d c.by c.by_rest → c.divisor ≡ d

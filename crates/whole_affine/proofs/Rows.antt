@@ -1,7 +1,7 @@
 -- A row of points by additions.
-use Rattle.std.proofs.Common.{◌≡◌, ◌∙◌, ℕ, zero, suc, ◌+◌, ◌-◌, ◌*◌, ◌<◌, ◌≤◌, ◌^◌, ℤ, pos, ◌+ℤ◌, ◌*ℤ◌, unsigned_abs, List, ◌∷◌, slice_index_or, refl, ap, arith}
+use Rattle.std.proofs.Common.{◌≡◌, ◌∙◌, ℕ, zero, suc, ◌+◌, ◌-◌, ◌*◌, ◌<◌, ◌≤◌, ◌^◌, ℤ, pos, ◌+ℤ◌, ◌*ℤ◌, unsigned_abs, List, ◌∷◌, slice_index_or, refl, sym, ap, arith}
 use Rattle.std.proofs.lemmas.Int.{ints}
-use Rattle.std.proofs.Math.IntN.{suc_ℤ-*ℤ}
+use Rattle.std.proofs.Math.IntN.{suc_ℤ-*ℤ, zero-*ℤ}
 use Rattle.whole_affine.specs.Affine.{Map, row_of, numerator_in, point, columns_of, row_points}
 use Rattle.whole_affine.specs.Walks.{axis, stepped, walked, StaysSmall, FitsWalk}
 use Rattle.whole_affine.proofs.Division.{abs_sum}
@@ -13,6 +13,18 @@ next_numerator row x y =
     let more : pos (suc x) *ℤ m ≡ (pos x *ℤ m) +ℤ m = suc_ℤ-*ℤ (pos x) m in
     let next : pos (x + 1) *ℤ m ≡ (pos x *ℤ m) +ℤ m = ap (λ n. pos n *ℤ m) (omega arith) ∙ more in
     omega (arith, ints, next)
+
+-- a numerator so many columns further on
+pub numerator_ahead : (row : List ℤ) (x y n : ℕ) → numerator_in row (x + n) y ≡ numerator_in row x y +ℤ (pos n *ℤ slice_index_or row 0 (pos 0))
+numerator_ahead row x y zero =
+    let none = zero-*ℤ (slice_index_or row 0 (pos 0)) in
+    let same : x + 0 ≡ x = omega arith in
+    ap (λ k. numerator_in row k y) same ∙ omega (arith, ints, none)
+numerator_ahead row x y (suc n) =
+    let m = slice_index_or row 0 (pos 0) in
+    let next : x + suc n ≡ x + n + 1 = omega arith in
+    let more : pos (suc n) *ℤ m ≡ (pos n *ℤ m) +ℤ m = suc_ℤ-*ℤ (pos n) m in
+    ap (λ k. numerator_in row k y) next ∙ sym (next_numerator row (x + n) y) ∙ ap (λ z. z +ℤ m) (numerator_ahead row x y n) ∙ omega (arith, ints, more)
 
 pub stepped-point : (map : Map) (x y : ℕ) → stepped (point map x y) (columns_of map) ≡ point map (x + 1) y
 stepped-point map x y = rw (next_numerator (row_of map 0) x y, next_numerator (row_of map 1) x y, next_numerator (row_of map 2) x y) refl

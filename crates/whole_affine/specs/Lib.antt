@@ -1,7 +1,9 @@
 pub mod Affine
+pub mod Boxes
 pub mod Carry
 pub mod Nearest
 pub mod NearestWalk
+pub mod Offsets
 pub mod Parts
 pub mod RowWalk
 pub mod Walks
