@@ -6,6 +6,7 @@ pub mod Painted
 pub mod Shows
 pub mod Painting
 pub mod Picture
+pub mod Runs
 pub mod Pixel
 pub mod Shade
 pub mod Wanted

@@ -1,9 +1,16 @@
 // A picture and the level of each of its pixels.
-ghost use Rattle.std.specs.Prelude.{◌≡◌, ◌+◌, ◌*◌, ◌<◌, ◌≤◌, replicate, slice_set, IfOk};
+ghost use Rattle.std.specs.Prelude.{◌≡◌, ℕ, ◌+◌, ◌*◌, ◌<◌, ◌≤◌, ◌^◌, length, replicate, slice_index, slice_set, IfOk};
+ghost use Rattle.whole_affine.specs.Parts.{LiesIn};
+ghost use Rattle.whole_affine.specs.Offsets.{offset_ahead, place_ahead};
 ghost use Rattle.scale_pick.specs.Picture.{place, IsFilled};
+ghost use Rattle.scale_pick.specs.Runs.{IsRunOf, ShowsRun};
+ghost use Rattle.scale_pick.specs.Shade.{shown};
 
+use crate::run::{Run, fill, show};
+use crate::shade::Shades;
 use std::alloc::{AllocError, Global};
 use std::marker::Model;
+use whole_affine::OffsetWalk;
 
 /// Want of memory.
 pub type Memory = AllocError;
@@ -97,5 +104,17 @@ impl Picture {
     {
         self.values[at] = value;
         self.mask[at] = mask;
+    }
+
+    /// Shows a run of pixels by the numbers at the offsets of a walk, in a frame of them. Each takes an addition or two for its offset, a
+    /// multiplication for its byte, and no test of where it lies.
+    pub fn show(&mut self, run: Run, frame: &[u64], walk: OffsetWalk, shades: Shades)
+        requires run { IsRunOf self.old run }
+        requires small { length frame.now ≤ 2 ^ 32 }
+        requires offsets { (k : ℕ) → k < run.columns → LiesIn (offset_ahead walk k) 0 (length frame.now) }
+        ensures { ShowsRun self.old self.new run (λ k. shown (slice_index frame.now (place_ahead walk k)) shades.low shades.high) }
+    {
+        show(&mut self.values, run, frame, walk, shades);
+        fill(&mut self.mask, run);
     }
 }
