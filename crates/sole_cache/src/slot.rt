@@ -60,6 +60,15 @@ pub fn value_of(slots: &[Slot], slot: usize, at: usize) -> u64
     slot.frame[at]
 }
 
+/// The frame of a slot.
+pub fn frame_of(slots: &[Slot], slot: usize) -> &[u64]
+    requires { slot < length slots.now }
+    ensures { result.now ≡ (slot_in slots.now slot).frame }
+{
+    let slot = &slots[slot];
+    slot.frame.as_slice()
+}
+
 /// Gives a slot so many pins.
 pub fn set_pins(slots: &mut Vec<Slot>, slot: usize, pins: u32)
     requires { slot < length slots.old.items }

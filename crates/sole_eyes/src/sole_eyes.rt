@@ -8,8 +8,10 @@ use cell_file::AcquireErr;
 use cell_grid::Geometry;
 use cell_store::Store;
 use fetch_queue::{Queues, Request};
+use scale_pick::{Picture, Run, Shades};
 use sole_cache::{SoleCache, SoleHandle};
 use volatile_cell::{Budget, Eyes, Look, hints};
+use whole_affine::OffsetWalk;
 
 /// Eyes over the cache of one thread and a queue, for one viewer.
 #[derive(Drop)]
@@ -119,6 +121,17 @@ impl<'a, S: Store> Eyes for SoleEyes<'a, S> {
 
     fn read(&mut self, handle: &SoleHandle, at: u32) -> u64 {
         self.cache.read(handle, at)
+    }
+
+    fn show(
+        &mut self,
+        handle: &SoleHandle,
+        walk: OffsetWalk,
+        shades: Shades,
+        run: Run,
+        picture: &mut Picture,
+    ) {
+        picture.show(run, self.cache.frame(handle), walk, shades);
     }
 
     fn release(&mut self, handle: SoleHandle) {

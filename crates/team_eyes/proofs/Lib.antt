@@ -6,3 +6,5 @@ pub mod Kept
 pub mod Acquired
 pub mod Leading
 pub mod Showing
+pub mod Offsets
+pub mod Runs

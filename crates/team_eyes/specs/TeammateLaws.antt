@@ -21,7 +21,7 @@ pins_on k c (e ∷ p) q n = pins_on k c p q (pins_next k c e n)
 pub stays_pinned : {S M : Type 0} (p : Plan S M) (d : Doing S M) → GoesPinned p d [] d
 stays_pinned p d = record { went = goes_still p d; pinned = λ c. refl }
 
-pinned_on : {S M : Type 0} (p : Plan S M) (a b c : Doing S M) (xs ys : List Event) → GoesPinned p a xs b → GoesPinned p b ys c → GoesPinned p a (xs ++ ys) c
+pub pinned_on : {S M : Type 0} (p : Plan S M) (a b c : Doing S M) (xs ys : List Event) → GoesPinned p a xs b → GoesPinned p b ys c → GoesPinned p a (xs ++ ys) c
 pinned_on p a b c xs ys f g = record {
   went = goes_on p a b c xs ys f.went g.went;
   pinned = λ n. g.pinned n ∙ ap (λ k. pins_after k n ys (times n b.pins)) f.went.number ∙ ap (pins_after a.number n ys) (f.pinned n) ∙ sym (pins_on a.number n xs ys (times n a.pins));

@@ -11,7 +11,12 @@ ghost use Rattle.pin_rule.specs.Going.{Goes};
 ghost use Rattle.live_cells.specs.Cells.{table, knows, IsCellPassOf, IsHandleOf, IsRefusedFor};
 ghost use Rattle.cell_grid.specs.Pyramid.{cells_of};
 ghost use Rattle.turn_cell.specs.Turn as turn;
+ghost use Rattle.whole_affine.specs.Parts.{LiesIn};
+ghost use Rattle.whole_affine.specs.Offsets.{offset_ahead};
+ghost use Rattle.scale_pick.specs.Shade.{shown};
+ghost use Rattle.scale_pick.specs.Runs.{IsRunOf, ShowsRun};
 ghost use Rattle.volatile_cell.specs.Requests.{request_for};
+ghost use Rattle.volatile_cell.specs.Showing.{reads_along};
 ghost use Rattle.queue_desk.specs.Asking.{AsksQueue};
 ghost use Rattle.team_eyes.specs.Holding.{HoldsStill};
 ghost use Rattle.team_eyes.specs.Teammate.{GoesPinned};
@@ -22,9 +27,11 @@ use cell_store::Store;
 use live_cells::{CellPass, Cells};
 use pin_rule::{Handle, NotLive};
 use queue_desk::{QueueDesk, put};
+use scale_pick::{Picture, Run, Shades};
 use std::sync::Wait;
 use turn_cell::{Turn, TurnPass};
 use volatile_cell::hints;
+use whole_affine::OffsetWalk;
 
 /// Pins a cell, which is loaded where it is absent.
 pub(crate) fn acquire<S: Store, R: Wait>(
@@ -88,6 +95,36 @@ pub(crate) fn read<S: Store>(
     ensures kept { (h : PinnedCell) → IsHandleOf cells.now pass.old h → IsHandleOf cells.now pass.new h }
 {
     cells.read(pass, handle, at)
+}
+
+/// Shows a run of pixels by the voxels of a held cell at the offsets of a walk. Each is read in turn, by one load of its word.
+pub(crate) fn show<S: Store>(
+    cells: &Cells<S>,
+    pass: &mut CellPass<S>,
+    handle: &Handle,
+    walk: OffsetWalk,
+    shades: Shades,
+    run: Run,
+    picture: &mut Picture,
+)
+    requires pass { IsCellPassOf cells.now pass.old }
+    requires still { HoldsStill (knows pass.old) }
+    requires held { IsHandleOf cells.now pass.old handle.now }
+    requires run { IsRunOf picture.old run }
+    requires offsets { (k : ℕ) → k < run.columns → LiesIn (offset_ahead walk k) 0 (voxel_count (table cells.now) handle.now.cell) }
+    ensures pass { IsCellPassOf cells.now pass.new }
+    ensures still { HoldsStill (knows pass.new) }
+    ensures shown { (number : ℕ → ℕ) × GoesPinned (plan_at S.contents (table cells.now)) (knows pass.old) (reads_along (knows pass.old).number handle.now.cell walk number run.columns) (knows pass.new) × ShowsRun picture.old picture.new run (λ k. shown (number k) shades.low shades.high) }
+    ensures pins { length (knows pass.new).pins ≡ length (knows pass.old).pins }
+    ensures kept { (h : PinnedCell) → IsHandleOf cells.now pass.old h → IsHandleOf cells.now pass.new h }
+{
+    let _width = picture.width(); // read for what its contract tells the proof
+    let mut walk = walk;
+    for k in 0..run.columns {
+        let number = read(cells, pass, handle, walk.at());
+        picture.set_at(run.first + k as usize, shades.shown(number), run.level);
+        walk = walk.next();
+    }
 }
 
 /// Gives a handle back.

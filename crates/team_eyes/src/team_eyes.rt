@@ -15,9 +15,11 @@ use fetch_queue::Request;
 use live_cells::{CellPass, Cells};
 use pin_rule::Handle;
 use queue_desk::{QueueDesk, clear, take};
+use scale_pick::{Picture, Run, Shades};
 use std::sync::Wait;
 use turn_cell::{Turn, TurnPass};
 use volatile_cell::{Budget, Eyes, Look};
+use whole_affine::OffsetWalk;
 
 /// Eyes over shared cells and a shared queue, for one viewer. Each thread has eyes of its own. Their calls may wait for other passes.
 #[derive(Drop)]
@@ -157,6 +159,17 @@ impl<'a, S: Store, R: Wait> Eyes for TeamEyes<'a, S, R> {
 
     fn read(&mut self, handle: &Handle, at: u32) -> u64 {
         steps::read(self.cells, self.pass, handle, at)
+    }
+
+    fn show(
+        &mut self,
+        handle: &Handle,
+        walk: OffsetWalk,
+        shades: Shades,
+        run: Run,
+        picture: &mut Picture,
+    ) {
+        steps::show(self.cells, self.pass, handle, walk, shades, run, picture);
     }
 
     fn release(&mut self, handle: Handle) {

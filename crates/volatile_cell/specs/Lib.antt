@@ -4,3 +4,4 @@ pub mod Requests
 pub mod StrategyRule
 pub mod Front
 pub mod Looks
+pub mod Showing

@@ -10,6 +10,10 @@ ghost use Rattle.volatile_cell.specs.Asked.{Asked, asked};
 ghost use Rattle.volatile_cell.specs.Front.{Front, IsFront};
 ghost use Rattle.volatile_cell.specs.StrategyRule.{clearing};
 ghost use Rattle.call_events.specs.Pieces.{IsAcquired};
+ghost use Rattle.whole_affine.specs.Parts.{LiesIn};
+ghost use Rattle.whole_affine.specs.Offsets.{offset_ahead};
+ghost use Rattle.scale_pick.specs.Runs.{IsRunOf};
+ghost use Rattle.volatile_cell.specs.Showing.{ShowsCell};
 ghost use Rattle.volatile_cell.specs.Looks.{IsLook, ForReady, ForNotReady, OnNoHandle};
 
 use crate::budget::Budget;
@@ -17,6 +21,8 @@ use crate::look::Look;
 use cell_file::AcquireErr;
 use cell_grid::Geometry;
 use fetch_queue::Request;
+use scale_pick::{Picture, Run, Shades};
+use whole_affine::OffsetWalk;
 
 /// The cells of a pyramid as one viewer sees them, and the queue of those that are wanted.
 ///
@@ -85,6 +91,23 @@ pub trait Eyes {
         requires inside { at < voxels_of (front.looker self.old).levels (cell_of handle.now) }
 
         ensures led { front.leads self.old (event.Read (front.looker self.old).pass (cell_of handle.now) at result ∷ []) [] self.new }
+        ensures held { held self.new ≡ held self.old }
+        ensures kept { (h : Self.Held) → holds self.old h → holds self.new h };
+
+    /// Shows a run of pixels by voxels of a held cell: each pixel the number of the voxel where an offset walks to, one a column.
+    fn show(
+        &mut self,
+        handle: &Self::Held,
+        walk: OffsetWalk,
+        shades: Shades,
+        run: Run,
+        picture: &mut Picture,
+    )
+        requires handle { holds self.old handle.now }
+        requires run { IsRunOf picture.old run }
+        requires offsets { (k : ℕ) → k < run.columns → LiesIn (offset_ahead walk k) 0 (voxels_of (front.looker self.old).levels (cell_of handle.now)) }
+
+        ensures shown { ShowsCell front self.old (cell_of handle.now) walk shades run picture.old self.new picture.new }
         ensures held { held self.new ≡ held self.old }
         ensures kept { (h : Self.Held) → holds self.old h → holds self.new h };
 

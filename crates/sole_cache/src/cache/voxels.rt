@@ -1,5 +1,5 @@
 //! Reading and writing voxels, by handles and by positions.
-ghost use Rattle.std.specs.Prelude.{◌≡◌, ◌≢◌, ℕ, ◌+◌, ◌<◌, ◌≤◌, List, [], ◌∷◌, ◌++◌, IsTrue, Ok, Some, None, Err, OnOk, OnErr, IfOk, length};
+ghost use Rattle.std.specs.Prelude.{◌≡◌, ◌≢◌, ℕ, ◌+◌, ◌^◌, ◌<◌, ◌≤◌, List, [], ◌∷◌, ◌++◌, IsTrue, Ok, Some, None, Err, OnOk, OnErr, IfOk, length, slice_index};
 ghost use Rattle.cell_grid.specs.Pyramid.{cells_of, voxels_of, kind_of};
 ghost use Rattle.cell_grid.specs.Kind.{greatest_of};
 ghost use Rattle.store_calls.specs.Calls.{StoreCall};
@@ -14,7 +14,7 @@ ghost use Rattle.sole_cache.specs.Acquires.{Quiet, GetsVoxel, SetsVoxel};
 
 use crate::cache::SoleCache;
 use crate::handle::SoleHandle;
-use crate::slot::{set_value, value_of};
+use crate::slot::{frame_of, set_value, value_of};
 use cell_file::CellErr;
 use cell_store::Store;
 
@@ -29,6 +29,19 @@ impl<S: Store> SoleCache<S> {
         ensures valid { IsCache self.new }
     {
         value_of(self.slots.as_slice(), h.slot() as usize, at as usize)
+    }
+
+    /// The numbers of a pinned cell, one for each of its voxels, and those of a greater cell that was in its frame before. To read one
+    /// changes nothing.
+    pub fn frame(&self, h: &SoleHandle) -> &[u64]
+        requires handle { IsHandleOf self.now h.now }
+        ensures whole { voxels_of self.now.levels h.now.cell ≤ length result.now }
+        ensures small { length result.now ≤ 2 ^ 32 }
+        ensures values { (at : ℕ) → at < voxels_of self.now.levels h.now.cell → slice_index result.now at ≡ (state_of self.now).arrays h.now.cell at }
+        ensures runs { (at : ℕ) → at < voxels_of self.now.levels h.now.cell → Runs self.now (happening.Read 0 h.now.cell at (slice_index result.now at) ∷ []) self.now }
+        ensures valid { IsCache self.now }
+    {
+        frame_of(self.slots.as_slice(), h.slot() as usize)
     }
 
     /// Marks a pinned cell, and writes a voxel of it. It takes no memory, and one step.
