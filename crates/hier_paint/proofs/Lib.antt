@@ -10,4 +10,5 @@ pub mod Walking
 pub mod Boxing
 pub mod Holding
 pub mod Spanning
+pub mod Running
 pub mod Retelling

@@ -42,7 +42,7 @@ next_place w x y = omega arith
 
 module _ (levels : List Level) (view : View) where
   -- what was painted of a row stays so in a picture with the same pixels there
-  row_same : (p q : Pixels) (y columns : ℕ) (v : List Visit) → q.width ≡ p.width → SameBefore p q (place p.width columns y) → IsRowWay levels view p y columns v → IsRowWay levels view q y columns v
+  pub row_same : (p q : Pixels) (y columns : ℕ) (v : List Visit) → q.width ≡ p.width → SameBefore p q (place p.width columns y) → IsRowWay levels view p y columns v → IsRowWay levels view q y columns v
   row_same p q y zero v same b h = h
   row_same p q y (suc x) v same b h =
       let lt : place p.width x y < place p.width (suc x) y = next_place p.width x y in

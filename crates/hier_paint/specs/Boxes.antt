@@ -3,6 +3,8 @@ use Rattle.std.specs.Prelude.{◌≡◌, ℕ, ℤ, pos, ◌+◌, List, length, m
 use Rattle.voxel_box.specs.Box.{IsWithin}
 use Rattle.cell_grid.specs.declared.level.Level.{Level}
 use Rattle.cell_grid.specs.Pyramid.{sides_of, IsVoxelOf}
+use Rattle.whole_affine.specs.Affine.{Map}
+use Rattle.whole_affine.specs.Boxes.{LiesInBox}
 use Rattle.hier_paint.specs.declared.cell_box.CellBox.{CellBox}
 
 -- A box is that of a cell: its lowest voxel is the one at offset 0 there, and its sides are the cell's.
@@ -17,6 +19,11 @@ pub record IsInside (voxel : List ℤ) (low sides at : List ℕ) : Type 0 where
   pub x : slice_index_or voxel 0 (pos 0) ≡ pos (slice_index low 0 + slice_index at 0)
   pub y : slice_index_or voxel 1 (pos 0) ≡ pos (slice_index low 1 + slice_index at 1)
   pub z : slice_index_or voxel 2 (pos 0) ≡ pos (slice_index low 2 + slice_index at 2)
+
+-- The nearest voxel of a pixel at a level, which has these factors, lies in a box of that level.
+pub record IsInBox (affine : Map) (factor : List ℕ) (level x y : ℕ) (b : CellBox) : Type 0 where
+  pub level_is : b.level ≡ level
+  pub inside : LiesInBox affine factor b.low b.sides x y
 
 -- These integers are the coordinates at a level of the voxel at this offset of a cell.
 pub record IsPlaced (levels : List Level) (level : ℕ) (voxel : List ℤ) (cell at : ℕ) : Type 0 where

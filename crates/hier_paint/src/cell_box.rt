@@ -1,11 +1,15 @@
 // The box of a cell.
-ghost use Rattle.std.specs.Prelude.{◌≡◌, ℕ, pos, ◌+◌, ◌^◌, ◌<◌, ◌≤◌, List, IfSome, unsigned_abs};
+ghost use Rattle.std.specs.Prelude.{◌≡◌, ◌⊎◌, ℕ, pos, ◌+◌, ◌^◌, ◌<◌, ◌≤◌, List, IfSome, unsigned_abs};
 ghost use Rattle.voxel_box.specs.Box.{volume, number, IsWithin};
 ghost use Rattle.cell_grid.specs.declared.level.Level.{Level};
 ghost use Rattle.cell_grid.specs.Pyramid.{cells_of};
+ghost use Rattle.whole_affine.specs.Affine.{Map};
+ghost use Rattle.whole_affine.specs.NearestWalk.{IsAt, steps_left};
+ghost use Rattle.whole_affine.specs.Offsets.{offset_ahead, offset_in, StandsIn};
 ghost use Rattle.hier_paint.specs.Nearest.{IsSmall};
 
 use cell_grid::{Geometry, Place};
+use whole_affine::{NearestWalk, OffsetWalk};
 
 /// The box of a cell: its level, its lowest voxel there, and its sides in voxels.
 #[derive(Clone, Copy)]
@@ -17,7 +21,7 @@ pub struct CellBox {
 }
 
 impl CellBox {
-    ghost use Rattle.hier_paint.specs.Boxes.{IsBoxOf, IsInside, IsPlaced};
+    ghost use Rattle.hier_paint.specs.Boxes.{IsBoxOf, IsInside, IsInBox, IsPlaced};
 
     /// The box of a cell.
     #[tactic(auto, using(crate::proofs::Boxing::voxel_small))]
@@ -46,6 +50,26 @@ impl CellBox {
         }
         let at = self.inside(voxel)?;
         Some(number(at, self.sides))
+    }
+
+    /// How many columns of a row at a level, from a walk on, have their nearest voxel in the box.
+    pub fn columns(&self, level: u8, walk: NearestWalk) -> u32
+        ensures few { result ≤ steps_left walk }
+        ensures inside { (affine : Map) (factor : List ℕ) (x y width : ℕ) → IsAt walk affine factor x y width → (k : ℕ) → k < result → IsInBox affine factor level (x + k) y self.now }
+        ensures end { (affine : Map) (factor : List ℕ) (x y width : ℕ) → IsAt walk affine factor x y width → (x + result ≡ width) ⊎ (¬ IsInBox affine factor level (x + result) y self.now) }
+    {
+        if level != self.level {
+            return 0;
+        }
+        walk.columns_in(self.low, self.sides)
+    }
+
+    /// The offsets in the cell of the nearest voxels of a row at the box's level, from a walk on, which is in the box.
+    pub fn offsets(&self, walk: NearestWalk) -> OffsetWalk
+        requires { StandsIn walk self.now.low self.now.sides }
+        ensures { (affine : Map) (factor : List ℕ) (x y width : ℕ) → IsAt walk affine factor x y width → (k : ℕ) → offset_ahead result k ≡ offset_in affine factor self.now.low self.now.sides (x + k) y }
+    {
+        walk.offsets(self.low, self.sides)
     }
 
     /// The position of a voxel in the box, where it lies there.

@@ -1,16 +1,17 @@
 // The pixels of a row that are painted together: those that the cell in the hand shows, and those outside the level.
-ghost use Rattle.std.specs.Prelude.{◌≡◌, ◌<◌, ◌≤◌, length, []};
+ghost use Rattle.std.specs.Prelude.{◌≡◌, ◌<◌, ◌≤◌, List, length, slice_get, Some, []};
+ghost use Rattle.cell_grid.specs.declared.level.Level.{Level};
 ghost use Rattle.scale_pick.specs.Picture.{place, IsFilled, SameBefore};
 ghost use Rattle.scale_pick.specs.Wanted.{wanted_level};
 ghost use Rattle.hier_paint.specs.Nearest.{IsWalk};
 ghost use Rattle.hier_paint.specs.Hands.{Fits, sight};
-ghost use Rattle.hier_paint.specs.Spans.{IsSpanWay};
+ghost use Rattle.hier_paint.specs.Spans.{IsSpanWay, IsHeldSpan};
 ghost use Rattle.hier_paint.specs.Works.{Works};
 
 use crate::hand::Hand;
 use crate::voxel::is_outside;
 use cell_grid::Geometry;
-use scale_pick::{Picture, Shades, View};
+use scale_pick::{Picture, Run, Shades, View};
 use volatile_cell::Eyes;
 use whole_affine::NearestWalk;
 
@@ -21,8 +22,8 @@ pub struct Column {
     pub walk: NearestWalk,
 }
 
-/// Paints a row from a column on, as long as the nearest voxel at the wanted level lies in the cell that is held. It answers the
-/// column where that ends.
+/// Paints a row from a column on, as long as the nearest voxel at the wanted level lies in the cell that is held, and answers the
+/// column where that ends. It is worked out first, so that the eyes show the run of pixels at once.
 pub fn paint_span<E: Eyes>(
     eyes: &mut E,
     hand: &Hand<E::Held>,
@@ -43,6 +44,7 @@ pub fn paint_span<E: Eyes>(
     ensures before { SameBefore picture.old picture.new (place picture.old.width 0 y) }
     ensures walk { IsWalk (E.front.looker eyes.old).levels view.now.affine wanted result.x y picture.old.width result.walk }
     ensures onward { from.x ≤ result.x }
+    ensures ends { (shape : Level) → slice_get (E.front.looker eyes.old).levels wanted ≡ Some shape → IsHeldSpan view.now.affine shape.factor wanted y hand.now.held from.x result.x picture.old.width }
     ensures fits { Fits E.front E.held E.holds E.cell_of eyes.new hand.now.held }
     ensures width { picture.new.width ≡ picture.old.width }
     ensures height { picture.new.height ≡ picture.old.height }
@@ -52,18 +54,21 @@ pub fn paint_span<E: Eyes>(
     let Some(held) = &hand.held else {
         return from;
     };
-    let bounds = held.bounds;
-    let first = y as usize * width as usize;
-    let mut walk = from.walk;
-    for x in from.x..width {
-        let Some(at) = bounds.offset(wanted, walk.voxel()) else {
-            return Column { x, walk };
-        };
-        let number = eyes.read(&held.handle, at);
-        picture.set_at(first + x as usize, shades.shown(number), wanted);
-        walk = walk.next();
+    let columns = held.bounds.columns(wanted, from.walk);
+    if columns == 0 {
+        return from;
     }
-    Column { x: width, walk }
+    let run = Run {
+        first: y as usize * width as usize + from.x as usize,
+        columns,
+        level: wanted,
+    };
+    let offsets = held.bounds.offsets(from.walk);
+    eyes.show(&held.handle, offsets, shades, run, picture);
+    Column {
+        x: from.x + columns,
+        walk: from.walk.ahead(columns),
+    }
 }
 
 /// Paints a row from a column on, as long as the nearest voxel at the wanted level lies outside that level. It answers the column
