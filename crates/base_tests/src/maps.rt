@@ -101,6 +101,33 @@ fn the_nearest_voxels_of_a_turned_row(rt: HostRuntime) -> Result<(), Fail> {
 }
 
 #[test]
+fn a_straight_row_stays_in_a_box_for_so_many_columns(rt: HostRuntime) -> Result<(), Fail> {
+    let map = Affine::new(1, [[2, 0, 1], [0, 1, 0], [0, 0, 3]])?;
+    let walk = NearestWalk::new(&map, [1, 1, 1], 2, 10);
+    for (low, sides, columns) in [
+        ([0, 0, 0], [8, 4, 4], 4),
+        ([0, 3, 0], [8, 4, 4], 0),
+        ([0, 0, 0], [100, 4, 4], 10),
+    ] {
+        assert_eq!(rt; walk.columns_in(low, sides), columns);
+    }
+    let ahead = walk.ahead(3);
+    assert_eq!(rt; ahead.voxel(), [7, 2, 3]);
+    assert_eq!(rt; ahead.columns_in([0, 0, 0], [8, 4, 4]), 1);
+    Ok(())
+}
+
+#[test]
+fn a_row_with_remainders_stays_in_a_box_for_so_many_columns(rt: HostRuntime) -> Result<(), Fail> {
+    let map = Affine::new(3, [[2, 0, 0], [-1, 0, 6], [0, 0, 0]])?;
+    let walk = NearestWalk::new(&map, [1, 1, 1], 0, 10);
+    assert_eq!(rt; walk.columns_in([0, 0, 0], [3, 3, 1]), 4);
+    assert_eq!(rt; walk.columns_in([0, 2, 0], [9, 1, 1]), 2);
+    assert_eq!(rt; walk.ahead(4).voxel(), [3, 1, 0]);
+    Ok(())
+}
+
+#[test]
 fn a_walk_at_the_limits(rt: HostRuntime) -> Result<(), Fail> {
     let map = Affine::new(
         2147483648,

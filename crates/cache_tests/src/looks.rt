@@ -69,3 +69,19 @@ fn a_cell_is_asked_for_and_loaded(rt: HostRuntime) -> Result<(), Fail> {
     assert_eq!(rt; loads_coarse(&mut eyes, &rt), Some(false));
     Ok(())
 }
+
+#[test]
+fn a_pinned_cell_lends_its_numbers(rt: HostRuntime) -> Result<(), Fail> {
+    let alloc = rt.alloc();
+    let geometry = pyramid(alloc)?;
+    assert!(rt; geometry.cells() == 5);
+    assert!(rt; geometry.voxels(1) == 4);
+    let mut cache = cache(alloc, &geometry, &rt)?;
+    let Ok(handle) = cache.acquire(1) else {
+        return Err(Fail::new("refused"));
+    };
+    let frame = cache.frame(&handle);
+    assert_eq!(rt; [frame[0], frame[1], frame[2], frame[3]], [5, 6, 7, 8]);
+    cache.release(handle);
+    Ok(())
+}
