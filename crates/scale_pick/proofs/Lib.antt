@@ -4,3 +4,4 @@ pub mod PaintedLemmas
 pub mod CompleteLemmas
 pub mod MomentLemmas
 pub mod ShadeLemmas
+pub mod Running

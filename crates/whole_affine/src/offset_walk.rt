@@ -93,19 +93,37 @@ impl OffsetWalk {
         self.at as u32
     }
 
-    /// The walk at the next column. Whether it makes the same step at each column is asked again, since LLVM asks it once for a loop.
+    /// Whether the walk makes the same step at each column.
+    pub fn is_straight(self) -> bool
+        ensures straight { result ≡ true → IsStraight self }
+        ensures turned { IsStraight self → result ≡ true }
+    {
+        self.x.by_rest == 0 && self.y.by_rest == 0 && self.z.by_rest == 0
+    }
+
+    /// The walk at the next column, where it makes the same step at each.
+    pub fn next_straight(self) -> OffsetWalk
+        requires straight { IsStraight self }
+        requires inside { LiesIn (offset_ahead self 0) 0 (2 ^ 32) }
+        ensures on { (k : ℕ) → offset_ahead result k ≡ offset_ahead self (k + 1) }
+        ensures straight { IsStraight result }
+    {
+        OffsetWalk {
+            at: moved(self.at, self.by, 0),
+            by: self.by,
+            x: self.x,
+            y: self.y,
+            z: self.z,
+        }
+    }
+
+    /// The walk at the next column. Whether it is straight is asked again, since LLVM asks it once for a loop.
     pub fn next(self) -> OffsetWalk
         requires { LiesIn (offset_ahead self 0) 0 (2 ^ 32) }
         ensures { (k : ℕ) → offset_ahead result k ≡ offset_ahead self (k + 1) }
     {
         if self.is_straight() {
-            return OffsetWalk {
-                at: moved(self.at, self.by, 0),
-                by: self.by,
-                x: self.x,
-                y: self.y,
-                z: self.z,
-            };
+            return self.next_straight();
         }
         let (x, on_x) = self.x.next();
         let (y, on_y) = self.y.next();
@@ -117,13 +135,6 @@ impl OffsetWalk {
             y,
             z,
         }
-    }
-
-    /// Whether the walk makes the same step at each column.
-    fn is_straight(self) -> bool
-        ensures { result ≡ true → IsStraight self }
-    {
-        self.x.by_rest == 0 && self.y.by_rest == 0 && self.z.by_rest == 0
     }
 }
 

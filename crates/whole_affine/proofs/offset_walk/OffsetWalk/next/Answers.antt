@@ -1,25 +1,10 @@
-use Rattle.std.proofs.Common.{◌≡◌, ◌∙◌, ◌≤◌, ◌^◌, pos, ◌+ℤ◌, unsigned_abs, to_z, of_z, w64, sym, subst, arith}
-use Rattle.std.proofs.lemmas.Int.{ints}
+use Rattle.std.proofs.Common.{◌∙◌, ◌≤◌, ◌^◌, unsigned_abs, sym, subst, arith}
 use Rattle.whole_affine.proofs.Division.{back}
-use Rattle.whole_affine.proofs.Turning.{adds_nothing, offset_on, small_here, sum_kept}
+use Rattle.whole_affine.proofs.Turning.{offset_on, small_here, sum_kept}
 use Rattle.whole_affine.proofs.offset_walk.OffsetWalk.next.Goals as goal
 
 pub moved-requires-clause-at : goal.moved-requires-clause-at
 moved-requires-clause-at c =
-    let small = small_here c.args.self c.requires in
-    subst (λ z. unsigned_abs z ≤ 2 ^ 32) (sym (back c.args.self.at (omega (arith, small)))) small
-
-pub returns-then-is_straight : goal.returns-then-is_straight
-returns-then-is_straight c =
-    let w = c.args.self in
-    let straight = c.is_straight.ensures c.if-is_straight.true in
-    let kept = back w.by (omega (arith, w.slow)) in
-    let at : to_z w64 (of_z w64 c.moved.result) ≡ w.at +ℤ w.by +ℤ (pos 0 +ℤ pos 0 +ℤ pos 0) =
-    omega (arith, ints, c.moved.ensures.sum, kept, back c.moved.result (omega (arith, c.moved.ensures.small)), back w.at (omega (arith, small_here w c.requires))) in
-    offset_on w _ _ (pos 0) (pos 0) (pos 0) w.x w.y w.z at kept (adds_nothing w.x straight.on_x) (adds_nothing w.y straight.on_y) (adds_nothing w.z straight.on_z)
-
-pub moved-requires-2-clause-at : goal.moved-requires-2-clause-at
-moved-requires-2-clause-at c =
     let small = small_here c.args.self c.requires in
     subst (λ z. unsigned_abs z ≤ 2 ^ 32) (sym (back c.args.self.at (omega (arith, small)))) small
 
@@ -30,6 +15,6 @@ returns c =
     let y = c.next-on_y in
     let z = c.next-on_z in
     let kept = back w.by (omega (arith, w.slow)) in
-    let at = sum_kept c.moved-2.result w.at w.by c.sum.result _ _ _ x.result.1 y.result.1 z.result.1 _ _ _ c.moved-2.ensures.sum c.sum.ensures.sum (back w.at (omega (arith, small_here w c.requires))) kept (back c.sum.result (omega (arith, c.sum.ensures.small)))
+    let at = sum_kept c.moved.result w.at w.by c.sum.result _ _ _ x.result.1 y.result.1 z.result.1 _ _ _ c.moved.ensures.sum c.sum.ensures.sum (back w.at (omega (arith, small_here w c.requires))) kept (back c.sum.result (omega (arith, c.sum.ensures.small)))
     (back x.result.1 (omega (arith, x.ensures.small))) (back y.result.1 (omega (arith, y.ensures.small))) (back z.result.1 (omega (arith, z.ensures.small))) in
-    offset_on w _ _ x.result.1 y.result.1 z.result.1 x.result.0 y.result.0 z.result.0 (back c.moved-2.result (omega (arith, c.moved-2.ensures.small)) ∙ at) kept x.ensures.on y.ensures.on z.ensures.on
+    offset_on w _ _ x.result.1 y.result.1 z.result.1 x.result.0 y.result.0 z.result.0 (back c.moved.result (omega (arith, c.moved.ensures.small)) ∙ at) kept x.ensures.on y.ensures.on z.ensures.on
